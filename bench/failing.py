@@ -314,6 +314,25 @@ def _(room):
     time.sleep(0.3)
 
 
+# the earlier mapping
+def earlier(made=lambda room: None):
+    return lambda room: (room.put('s.pro', CONFIG + '-applymapping old.txt\n'), made(room))
+
+
+simple('the earlier mapping isn\'t there')(earlier())
+simple('the earlier mapping is a directory')(earlier(lambda room: (room.at / 'old.txt').mkdir()))
+simple('the earlier mapping is a link to a file')(earlier(lambda room: (room.put('real', ''), link(room, 'old.txt', 'real'))))
+simple('the earlier mapping is a pipe that nobody writes to')(earlier(lambda room: os.mkfifo(room.at / 'old.txt')))
+simple('the earlier mapping may not be read', user=NOBODY)(
+    earlier(lambda room: (room.put('old.txt', ''), (room.at / 'old.txt').chmod(0))))
+simple('the earlier mapping has 64 MiB and a byte')(earlier(lambda room: long_file(room.at / 'old.txt')))
+simple('the earlier mapping isn\'t one')(earlier(lambda room: room.put('old.txt', 'x\n')))
+simple('the earlier mapping is the file of the new one, and isn\'t one')(
+    lambda room: room.put('s.pro', CONFIG + '-applymapping map.txt\n'))
+simple('the earlier mapping lies below the output directory')(
+    lambda room: (room.put('s.pro', CONFIG + '-applymapping out/old.txt\n'), room.put('out/old.txt', '')))
+
+
 # the input
 simple('the input directory isn\'t there')(lambda room: shutil.rmtree(room.at / 'in'))
 simple('the input directory is a file')(lambda room: instead(room, 'in', lambda it: it.write_text('x')))

@@ -25,7 +25,7 @@ CONFIGS = [
     ("-injars b", "Repeated -injars", "once"),
     ("-dontshrink now", "UnknownOption", ""), ("-if class A", "LeftOut -if", "PROGUARD"),
     ("@other.pro", "LeftOut @other.pro", ""),
-    ("-include x.pro", "LeftOut -include", ""), ("-applymapping m", "LeftOut -applymapping", ""),
+    ("-include x.pro", "LeftOut -include", ""),
     ("-target 8", "LeftOut -target", ""),
     ("-optimizations x", "LeftOut -optimizations", ""), ("-dump", "LeftOut -dump", ""),
     ("-basedirectory x", "LeftOut -basedirectory", ""),

@@ -417,6 +417,22 @@ def rule_members(n):
 rule_members.rules = lambda n: '-keep class p.A { ' + ' '.join(f'void x{k}();' for k in range(n)) + ' }\n'
 
 
+def rule_overloads(n):
+    """One interface of 1,240 methods of one name, and a rule with N members of that name that match none of them."""
+    yield interface('p/A', methods=[abstract('m', descriptor(k)) for k in range(1240)])
+
+
+rule_overloads.rules = lambda n: '-keep class p.A { ' + ' '.join(f'void m(x.C{k});' for k in range(n)) + ' }\n'
+
+
+def rule_stars(n):
+    """One class of 1,240 methods, and a rule with N members whose names have a star, and that match none of them."""
+    yield File('p/A', methods=[body(name=f'm{k}') for k in range(1240)])
+
+
+rule_stars.rules = lambda n: '-keep class p.A { ' + ' '.join(f'void x{k}*();' for k in range(n)) + ' }\n'
+
+
 def rule_parameters(n):
     """One class, and a rule with one method of N parameters."""
     yield File('p/A', methods=[body()])
@@ -515,12 +531,12 @@ attribute_filters.rules = lambda n: '-keep class ** { *; }\n-keepattributes ' + 
 USUAL = [classes, deep, deep_large, chain, overriding, implementing, interfaces, extending, calls]
 HOSTILE = [strings, long_calls, handlers, throws, descriptors, long_arguments, frames, full_frames, branches, covering, changing, beginning, differing, ending, making, framing, wanting, deep_frames, tall, overriding_twenty, overloads, two_overloads, colliding, alike_ends, colliding_classes]
 COSTLY = [chain_methods, chain_opened, below_chain, chain_final, same_interface, high_references, interface_dense, interface_dense_up, two_chains, nops, wide_frames,
-          wide_methods, line_rows, rule_members, rule_parameters, long_pattern, wildcard_rules, named_rules, attribute_filters]
+          wide_methods, line_rows, rule_members, rule_overloads, rule_stars, rule_parameters, long_pattern, wildcard_rules, named_rules, attribute_filters]
 SIZES = {
     'chain_methods': [200, 400, 800], 'chain_opened': [20, 40, 80], 'below_chain': [1250, 2500, 5000], 'chain_final': [1250, 2500, 5000], 'same_interface': [250, 500, 1000],
     'high_references': [1000, 2000, 4000], 'interface_dense': [125, 250, 500], 'interface_dense_up': [125, 250, 500],
     'two_chains': [500, 1000, 2000], 'nops': [31, 62, 124], 'wide_frames': [250, 500, 1000], 'wide_methods': [250, 500, 1000],
-    'line_rows': [10000, 20000, 40000], 'rule_members': [2000, 4000, 8000], 'rule_parameters': [250000, 500000, 1000000],
+    'line_rows': [10000, 20000, 40000], 'rule_members': [2000, 4000, 8000], 'rule_overloads': [2000, 4000, 8000], 'rule_stars': [2000, 4000, 8000], 'rule_parameters': [250000, 500000, 1000000],
     'long_pattern': [2000, 4000, 8000], 'wildcard_rules': [100, 200, 400], 'named_rules': [500, 1000, 2000],
     'attribute_filters': [500, 1000, 2000],
     'classes': [2000, 4000, 8000], 'calls': [4000, 8000, 16000], 'strings': [8000, 16000], 'long_calls': [5000, 10000, 20000],

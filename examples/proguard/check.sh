@@ -36,11 +36,12 @@ modules=$(dirname "$(dirname "$(readlink -f "$(command -v java)")")")/lib/module
 (cd "$room" && jimage extract --dir jdk --include 'regex:/java.base/java/(lang|io)/[A-Za-z]*.class' "$modules") || fail "the JDK's classes can't be read"
 find "$room/jdk" -name '*.class' | while read -r file; do printf '\0\0\0\064' | dd of="$file" bs=1 seek=4 conv=notrunc 2>/dev/null; done
 
-# No optimisation, and the names of the mapping. ProGuard takes paths from the folder of the config.
+# No optimisation, and the names of the mapping, in which methods of two results may share one. ProGuard takes paths from the
+# folder of the config.
 {
     printf -- '-injars %s\n-outjars %s/theirs\n-libraryjars %s/jdk/java.base\n' "$(cd "$input" && pwd)" "$room" "$room"
     printf -- '-dontoptimize\n-dontnote\n-dontwarn\n-applymapping %s/map.txt\n-printmapping %s/their-map.txt\n' "$room" "$room"
-    printf -- '-keeppackagenames\n'
+    printf -- '-keeppackagenames\n-overloadaggressively\n'
     cat "$room/rules.pro"
 } >"$room/theirs.pro"
 proguard "@$room/theirs.pro" >"$room/proguard.log" 2>&1 || fail "ProGuard failed: $room/proguard.log"

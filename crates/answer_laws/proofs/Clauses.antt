@@ -10,6 +10,7 @@ use Rattle.mapping_file.specs.declared.mapping.Mapping.{Mapping}
 use Rattle.witness_file.specs.declared.witness.Witness.{Witness}
 use Rattle.pair_clauses.specs.Closing.{closed_fault, seed_fault}
 use Rattle.pair_clauses.specs.FixedNames.{fixed_by, fixed_fault, package_fault}
+use Rattle.pair_clauses.specs.LineRanges.{range_fault}
 use Rattle.pair_clauses.specs.Shape.{shape_fault}
 use Rattle.pair_clauses.specs.declared.place.Place.{Place}
 use Rattle.pair_edits.specs.Edits.{stray_fault}
@@ -36,7 +37,8 @@ clause_at (suc (suc (suc (suc (suc (suc zero)))))) = clause.NotClosed
 clause_at (suc (suc (suc (suc (suc (suc (suc zero))))))) = clause.MemberDiffers
 clause_at (suc (suc (suc (suc (suc (suc (suc (suc zero)))))))) = clause.WitnessStray
 clause_at (suc (suc (suc (suc (suc (suc (suc (suc (suc zero))))))))) = clause.EditIllegal
-clause_at n = clause.CodeDiffers
+clause_at (suc (suc (suc (suc (suc (suc (suc (suc (suc (suc zero)))))))))) = clause.CodeDiffers
+clause_at n = clause.LineRange
 
 back : (c : Clause) → clause_at (number c) ≡ c
 back clause.OutputFormat = refl
@@ -50,8 +52,9 @@ back clause.MemberDiffers = refl
 back clause.WitnessStray = refl
 back clause.EditIllegal = refl
 back clause.CodeDiffers = refl
+back clause.LineRange = refl
 
-below : (c : Clause) → number c < 11
+below : (c : Clause) → number c < 12
 below clause.OutputFormat = omega arith
 below clause.OutputProfile = omega arith
 below clause.MapShape = omega arith
@@ -63,6 +66,7 @@ below clause.MemberDiffers = omega arith
 below clause.WitnessStray = omega arith
 below clause.EditIllegal = omega arith
 below clause.CodeDiffers = omega arith
+below clause.LineRange = omega arith
 
 module _ (input output : List Class) (mapping : Mapping) (rules : Rules) (witness : Witness)
     (sound : AreSound input) where
@@ -80,6 +84,7 @@ module _ (input output : List Class) (mapping : Mapping) (rules : Rules) (witnes
   clause_searched clause.EditIllegal = edits_searched witness input sound
   clause_searched clause.CodeDiffers =
       codes_searched mapping (filter_of rules) (edited_input witness input) (given_names mapping input) output
+  clause_searched clause.LineRange = (range_fault mapping input (given_names mapping input) output, refl)
 
   -- ---- one clause after another
 
@@ -106,11 +111,11 @@ module _ (input output : List Class) (mapping : Mapping) (rules : Rules) (witnes
   then_more : (n : ℕ) → number (clause_at n) ≡ n → NoneBelow n ⊎ HasFirst → NoneBelow (suc n) ⊎ HasFirst
   then_more n numbered = ⊎_elim (one_more n numbered) inr
 
-  first_clause : NoneBelow 11 ⊎ HasFirst
+  first_clause : NoneBelow 12 ⊎ HasFirst
   first_clause =
-      then_more 10 refl (then_more 9 refl (then_more 8 refl (then_more 7 refl (then_more 6 refl (then_more 5 refl
-      (then_more 4 refl (then_more 3 refl (then_more 2 refl (then_more 1 refl (then_more 0 refl
-      (inl (λ c low. absurd (omega (arith, low))))))))))))))
+      then_more 11 refl (then_more 10 refl (then_more 9 refl (then_more 8 refl (then_more 7 refl (then_more 6 refl
+      (then_more 5 refl (then_more 4 refl (then_more 3 refl (then_more 2 refl (then_more 1 refl (then_more 0 refl
+      (inl (λ c low. absurd (omega (arith, low)))))))))))))))
 
   pub first_or_none : ((c : Clause) → Finds input output mapping rules witness c None) ⊎ HasFirst
   first_or_none = ⊎_elim (λ none. inl (λ c. none c (below c))) inr first_clause

@@ -14,7 +14,7 @@ use Rattle.command_frame.specs.declared.stop.Stop.{Stop}
 use Rattle.command_frame.specs.declared.stop.Stop.TheVariants.{Refused, Device, OutOfMemory}
 use Rattle.batch_command.specs.Caught.{caught}
 use Rattle.batch_command.specs.Finding.{Caught, FindsAll, MakesAll}
-use Rattle.batch_command.specs.Jobs.{AreClassFiles, AreInputs, Each, EachBefore, IsInput, IsTaken, Parts, bytes_in}
+use Rattle.batch_command.specs.Jobs.{AreInputs, Each, EachBefore, HasNames, IsInput, IsNamed, IsRead, IsTaken, Parts, bytes_in}
 use Rattle.batch_command.specs.Jobs.{bytes_of}
 use Rattle.batch_command.specs.bodies.Steps.{HasRoom}
 use Rattle.batch_command.specs.declared.work.JobConfig.{JobConfig}
@@ -125,13 +125,28 @@ taken_more (x ∷ inputs) input all h = (all.0, taken_more inputs input all.1 h)
 
 -- what was caught is taken as it was found
 pub caught_taken : (r : Result JobInput Stop) (input : Result JobInput Refusal) → Ok input ≡ caught r
-    → IfOk r (λ found. AreClassFiles found.inputs) → IsTaken input
+    → IfOk r IsRead → IsTaken input
 caught_taken (Ok found) input is h =
     subst IsTaken (sym (same_ok {X = Stop} input (Ok found) is)) h
 caught_taken (Err (Refused refusal)) input is h =
     subst IsTaken (sym (same_ok {X = Stop} input (Err refusal) is)) tt
 caught_taken (Err Device) input is h = absurd cc
 caught_taken (Err OutOfMemory) input is h = absurd cc
+
+-- so is what was caught of a config
+pub caught_named : (r : Result JobConfig Stop) (config : Result JobConfig Refusal) → Ok config ≡ caught r
+    → IfOk r HasNames → IsNamed config
+caught_named (Ok found) config is h =
+    subst IsNamed (sym (same_ok {X = Stop} config (Ok found) is)) h
+caught_named (Err (Refused refusal)) config is h =
+    subst IsNamed (sym (same_ok {X = Stop} config (Err refusal) is)) tt
+caught_named (Err Device) config is h = absurd cc
+caught_named (Err OutOfMemory) config is h = absurd cc
+
+pub named_more : (configs : List (Result JobConfig Refusal)) (config : Result JobConfig Refusal)
+    → AllByRecursion IsNamed configs → IsNamed config → AllByRecursion IsNamed (configs ++ config ∷ [])
+named_more [] config all h = (h, tt)
+named_more (x ∷ configs) config all h = (all.0, named_more configs config all.1 h)
 
 module _ (parts : Parts) (configs : List (Result JobConfig Refusal)) where
   abbrev pub Input : Files → Result JobConfig Refusal → Result JobInput Refusal → Type 0

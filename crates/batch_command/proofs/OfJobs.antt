@@ -8,7 +8,6 @@ use Rattle.tree_io.specs.declared.event.Event.{Event}
 use Rattle.tree_io.specs.declared.file_at.FileAt.{FileAt}
 use Rattle.class_files.specs.Output.{StopsWithin}
 use Rattle.batch_list.specs.declared.line.JobFiles.{JobFiles}
-use Rattle.keep_rules.specs.declared.rules.Rules.{Rules}
 use Rattle.command_frame.specs.Answer.{StopsBefore, Unwritten}
 use Rattle.command_frame.specs.Steps.{Then, follows, stops}
 use Rattle.command_frame.specs.declared.command.Plan.{Plan}
@@ -20,7 +19,7 @@ use Rattle.batch_command.specs.Answer.{Ending, LeavesSo, StopsSo, WritesUntil, d
 use Rattle.batch_command.specs.Answer.{text_without_memory}
 use Rattle.batch_command.specs.Batch.{IsDue, batch_of}
 use Rattle.batch_command.specs.Jobs.{AreAnswers, AreApart, AreInputs, AreListed, Each, FollowsApart, FollowsConfigs}
-use Rattle.batch_command.specs.Jobs.{FollowsList, IsConfig, IsInput, IsJob, IsPlan, Parts, config_of, input_of}
+use Rattle.batch_command.specs.Jobs.{FollowsList, IsInput, IsJob, IsPlan, Parts, input_of}
 use Rattle.batch_command.specs.Laws.{DoesJobs, IsOfJobs, Leaves, LeavesSome, LeavesStopped, LeavesTold}
 use Rattle.batch_command.specs.declared.joined.Batch.{Batch}
 use Rattle.batch_command.specs.declared.work.JobConfig.{JobConfig}
@@ -30,8 +29,8 @@ use Rattle.batch_command.specs.declared.work.JobInput.{JobInput}
 
 module _ (parts : Parts) (files : Files) where
   -- behind its config
-  abbrev Behind : JobFiles → Rules → Result Plan Refusal → Type 0
-  Behind job rules = Then (parts.input files rules) (λ inputs. parts.plan (input_of (config_of job rules) inputs))
+  abbrev Behind : JobConfig → Result Plan Refusal → Type 0
+  Behind config = Then (parts.input files config.rules) (λ inputs. parts.plan (input_of config inputs))
 
   -- of an input its plan is due, and of a refusal the refusal
   plan_refused : (refusal : Refusal) (input : Result JobInput Refusal) (answer : Result Plan Refusal)
@@ -45,27 +44,22 @@ module _ (parts : Parts) (files : Files) where
       subst (λ (i : Result JobInput Refusal). IsPlan parts i answer) is h
 
   -- a job that has a config
-  input_plan : (job : JobFiles) (rules : Rules) (input : Result JobInput Refusal) (answer : Result Plan Refusal)
-      → IsInput parts files (Ok (config_of job rules)) input → IsPlan parts input answer → Behind job rules answer
-  input_plan job rules input answer (stops refusal h is) p =
-      stops refusal h (plan_refused refusal input answer is p)
-  input_plan job rules input answer (follows inputs h is) p =
-      follows inputs h (plan_given (input_of (config_of job rules) inputs) input answer is p)
+  input_plan : (config : JobConfig) (input : Result JobInput Refusal) (answer : Result Plan Refusal)
+      → IsInput parts files (Ok config) input → IsPlan parts input answer → Behind config answer
+  input_plan config input answer (stops refusal h is) p = stops refusal h (plan_refused refusal input answer is p)
+  input_plan config input answer (follows inputs h is) p =
+      follows inputs h (plan_given (input_of config inputs) input answer is p)
 
   config_plan : (job : JobFiles) (config : Result JobConfig Refusal) (input : Result JobInput Refusal)
-      (answer : Result Plan Refusal) → IsConfig parts files job config → IsInput parts files config input
+      (answer : Result Plan Refusal) → parts.config files job config → IsInput parts files config input
       → IsPlan parts input answer → IsJob parts files job answer
-  config_plan job config input answer (stops refusal h is) i p =
-      stops refusal h (plan_refused refusal input answer
-      (subst (λ (c : Result JobConfig Refusal). IsInput parts files c input) is i) p)
-  config_plan job config input answer (follows rules h is) i p =
-      follows rules h (input_plan job rules input answer
-      (subst (λ (c : Result JobConfig Refusal). IsInput parts files c input) is i) p)
+  config_plan job (Err refusal) input answer h i p = stops refusal h (plan_refused refusal input answer i p)
+  config_plan job (Ok config) input answer h i p = follows config h (input_plan config input answer i p)
 
   -- all jobs
   all_plans : (jobs : List JobFiles) (configs : List (Result JobConfig Refusal))
       (inputs : List (Result JobInput Refusal)) (answers : List (Result Plan Refusal))
-      → AllZip (IsConfig parts files) jobs configs → AllZip (IsInput parts files) configs inputs
+      → AllZip (parts.config files) jobs configs → AllZip (IsInput parts files) configs inputs
       → AllZip (IsPlan parts) inputs answers → AllZip (IsJob parts files) jobs answers
   all_plans [] [] [] [] c i p = tt
   all_plans [] [] [] (a ∷ answers) c i p = absurd p
@@ -81,7 +75,7 @@ module _ (parts : Parts) (files : Files) where
 
 module _ (parts : Parts) (files : Files) (list : List ℕ) where
   answered_apart : (jobs : List JobFiles) (configs : List (Result JobConfig Refusal))
-      (answers : List (Result Plan Refusal)) → AllZip (IsConfig parts files) jobs configs
+      (answers : List (Result Plan Refusal)) → AllZip (parts.config files) jobs configs
       → FollowsApart parts files configs (Ok answers) → AllZip (IsJob parts files) jobs answers
   answered_apart jobs configs answers c h =
       let both = both_gave (AreInputs parts files configs) (Each (IsPlan parts)) answers h in
@@ -90,7 +84,7 @@ module _ (parts : Parts) (files : Files) (list : List ℕ) where
   answered_each : (jobs : List JobFiles) (answers : List (Result Plan Refusal))
       → FollowsList parts list files jobs (Ok answers) → AllZip (IsJob parts files) jobs answers
   answered_each jobs answers h =
-      let configs = both_gave (Each (IsConfig parts files) jobs) (FollowsConfigs parts list files) answers h in
+      let configs = both_gave (Each (parts.config files) jobs) (FollowsConfigs parts list files) answers h in
       let apart = both_gave (AreApart list configs.0) (λ done. FollowsApart parts files configs.0) answers configs.2 in
       answered_apart jobs configs.0 answers configs.1 apart.2
 

@@ -1,14 +1,15 @@
 -- What is due of each job of a batch, and of all of them, of told files (the project's own: what the command promises).
 use Rattle.std.specs.Prelude.{◌≡◌, ◌≤◌, ◌<◌, ◌+◌, ℕ, List, [], ◌∷◌, ◌++◌, map, Option, Some, None, Result, Ok, Err}
-use Rattle.std.specs.Prelude.{codes}
+use Rattle.std.specs.Prelude.{codes, IfSome}
 use Rattle.std.specs.Fmt.{decimal}
 use Rattle.std.specs.List.{AllZip, sum_by}
 use Rattle.tree_io.specs.Below.{IsAscending}
 use Rattle.tree_io.specs.Files.{Files}
 use Rattle.tree_io.specs.declared.file_at.FileAt.{FileAt}
 use Rattle.class_files.specs.Input.{total}
-use Rattle.keep_rules.specs.Paths.{files_of}
+use Rattle.keep_rules.specs.Paths.{before_texts, files_of}
 use Rattle.keep_rules.specs.declared.rules.Rules.{Rules}
+use Rattle.mapping_file.specs.Mappings.{IsMapping}
 use Rattle.batch_list.specs.List.{list_read}
 use Rattle.batch_list.specs.Overlap.{first_overlap}
 use Rattle.batch_list.specs.declared.line.JobFiles.{JobFiles}
@@ -26,14 +27,12 @@ use Rattle.batch_command.specs.declared.work.JobInput.{JobInput}
 
 -- ---- one job
 
--- what is due of each part of a job: the rules of its config, the class files that they name, and its plan
+-- what is due of each part of a job: its config with the earlier mapping that it names, the class files that its rules
+-- name, and its plan
 pub record Parts : Type 1 where
-  pub config : Files → JobFiles → Result Rules Refusal → Type 0
+  pub config : Files → JobFiles → Result JobConfig Refusal → Type 0
   pub input : Files → Rules → Result (List FileAt) Refusal → Type 0
   pub plan : JobInput → Result Plan Refusal → Type 0
-
-abbrev pub config_of : JobFiles → Rules → JobConfig
-config_of job rules = record { files = job; rules = rules }
 
 abbrev pub input_of : JobConfig → List FileAt → JobInput
 input_of config inputs = record { config = config; inputs = inputs }
@@ -41,7 +40,7 @@ input_of config inputs = record { config = config; inputs = inputs }
 -- what a job is to write and to say, or its first refusal
 abbrev pub IsJob : Parts → Files → JobFiles → Result Plan Refusal → Type 0
 IsJob parts files job = Then (parts.config files job)
-    (λ rules. Then (parts.input files rules) (λ inputs. parts.plan (input_of (config_of job rules) inputs)))
+    (λ config. Then (parts.input files config.rules) (λ inputs. parts.plan (input_of config inputs)))
 
 -- ---- the list
 
@@ -75,8 +74,13 @@ abbrev pub EachBefore : {X Y : Type 0} → (X → Result Y Refusal → Type 0) �
 EachBefore {X} IsDue all rest (Ok ys) = (done : List X) × (done ++ rest ≡ all) × AllZip IsDue done ys
 EachBefore IsDue all rest (Err refusal) = ⊥
 
-abbrev pub IsConfig : Parts → Files → JobFiles → Result JobConfig Refusal → Type 0
-IsConfig parts files job = Then (parts.config files job) (λ rules due. due ≡ Ok (config_of job rules))
+-- the earlier mapping of a job, if it applies one, can be a text
+abbrev pub HasNames : JobConfig → Type 0
+HasNames config = IfSome config.earlier IsMapping
+
+abbrev pub IsNamed : Result JobConfig Refusal → Type 0
+IsNamed (Ok config) = HasNames config
+IsNamed (Err refusal) = Unit {0}
 
 -- ---- paths
 
@@ -84,7 +88,7 @@ IsConfig parts files job = Then (parts.config files job) (λ rules due. due ≡ 
 abbrev pub paths_of : ℕ → JobConfig → JobPaths
 paths_of line config = record {
   line = line;
-  reads = config.files.config ∷ config.rules.in_dir ∷ [];
+  reads = config.files.config ∷ config.rules.in_dir ∷ before_texts config.rules.apply [];
   writes = config.rules.out_dir ∷ files_of config.rules config.files.witness;
 }
 
@@ -113,8 +117,13 @@ pub record AreClassFiles (files : List FileAt) : Type 0 where
   pub ascending : IsAscending (map (λ (f : FileAt). f.path) files)
   pub short : total files ≤ 67108864
 
+-- all that a job reads is read so
+pub record IsRead (input : JobInput) : Type 0 where
+  pub names : HasNames input.config
+  pub files : AreClassFiles input.inputs
+
 abbrev pub IsTaken : Result JobInput Refusal → Type 0
-IsTaken (Ok input) = AreClassFiles input.inputs
+IsTaken (Ok input) = IsRead input
 IsTaken (Err refusal) = Unit {0}
 
 -- the job's class files, where it has a config
@@ -161,7 +170,7 @@ FollowsConfigs parts list files configs = Then (AreApart list configs) (λ done.
 
 -- behind their configs
 abbrev pub FollowsList : Parts → List ℕ → Files → List JobFiles → Result (List (Result Plan Refusal)) Refusal → Type 0
-FollowsList parts list files jobs = Then (Each (IsConfig parts files) jobs) (FollowsConfigs parts list files)
+FollowsList parts list files jobs = Then (Each (parts.config files) jobs) (FollowsConfigs parts list files)
 
 -- what all jobs are to write and to say, each with its plan or its refusal; or why there is no batch
 abbrev pub AreAnswers : Parts → List ℕ → Files → Result (List (Result Plan Refusal)) Refusal → Type 0

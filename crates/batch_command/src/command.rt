@@ -33,10 +33,10 @@ use tree_io::{Sink, Tree, WriteFault};
 /// | 11 | where a line of the list names no job | `error 11 text LINE BadLine` |
 /// | 15 | where a path that a job writes is the list or one that an earlier job reads or writes, lies below such a one or has it below, or an earlier job writes so into what it reads | `error 15 overlap LINE` |
 ///
-/// The list is looked at first, then the config of each job, then their paths, then their class files; each job that was
-/// refused is left out of what follows. A refusal of a job is told in its report, and the others go on. After a refusal
-/// of the batch no file has changed. After 7 and 10 the first of the files to be written may stand; after 7 the next path
-/// may hold any bytes.
+/// The list is looked at first, then the config of each job and the earlier mapping that it names, then their paths,
+/// then their class files; each job that was refused is left out of what follows. A refusal of a job is told in its
+/// report, and the others go on. After a refusal of the batch no file has changed. After 7 and 10 the first of the files
+/// to be written may stand; after 7 the next path may hold any bytes.
 pub fn run_jobs<W: Work, T: Tree, S: Sink>(
     alloc: Global,
     work: &W,

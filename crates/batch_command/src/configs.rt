@@ -1,10 +1,11 @@
 // The configs of the jobs, and their paths.
 ghost use Rattle.std.specs.Prelude.{◌≡◌, ◌++◌, ◌∷◌, [], IfOk, OnOk};
+ghost use Rattle.std.specs.List.{AllByRecursion};
 ghost use Rattle.keep_rules.specs.Paths.{before_texts};
-ghost use Rattle.command_frame.specs.Steps.{Finds, seen};
+ghost use Rattle.command_frame.specs.Steps.{seen};
 ghost use Rattle.batch_command.specs.Caught.{caught};
 ghost use Rattle.batch_command.specs.Finding.{FindsAll, MakesAll};
-ghost use Rattle.batch_command.specs.Jobs.{AreApart, Each, IsConfig, overlap_refused, paths_from, paths_of};
+ghost use Rattle.batch_command.specs.Jobs.{AreApart, Each, IsNamed, overlap_refused, paths_from, paths_of};
 
 use crate::work::{JobConfig, Work};
 use batch_list::{JobFiles, JobPaths, first_overlap};
@@ -21,32 +22,17 @@ pub(crate) fn find_configs<W: Work, T: Tree>(
     tree: &mut T,
 ) -> Result<Items<Result<JobConfig, Refusal>>, Stop>
     requires { W.ready work.now }
-    ensures { FindsAll result (λ fs. Each (IsConfig W.parts fs) jobs)
+    ensures names { IfOk result (AllByRecursion IsNamed) }
+    ensures found { FindsAll result (λ fs. Each (W.parts.config fs) jobs)
         (seen (T.files tree.old) (T.faults tree.old) (T.log tree.old))
         (seen (T.files tree.new) (T.faults tree.new) (T.log tree.new)) }
 {
     let mut configs = Items::new(alloc);
     for job in jobs.into_vec() {
-        let config = caught(find_config(alloc, work, job, tree))?;
+        let config = caught(work.find_config(alloc, job, tree))?;
         put(&mut configs, config)?;
     }
     Ok(configs)
-}
-
-/// The config of a job.
-fn find_config<W: Work, T: Tree>(
-    alloc: Global,
-    work: &W,
-    files: JobFiles,
-    tree: &mut T,
-) -> Result<JobConfig, Stop>
-    requires { W.ready work.now }
-    ensures { Finds result (λ fs. IsConfig W.parts fs files)
-        (seen (T.files tree.old) (T.faults tree.old) (T.log tree.old))
-        (seen (T.files tree.new) (T.faults tree.new) (T.log tree.new)) }
-{
-    let rules = work.find_config(alloc, &files, tree)?;
-    Ok(JobConfig { files, rules })
 }
 
 /// Puts an item behind others.
@@ -111,6 +97,7 @@ fn paths_of(alloc: Global, line: usize, config: &JobConfig) -> M<JobPaths>
     let mut reads = Items::new(alloc);
     reads.push(config.files.config.clone()?)?;
     reads.push(config.rules.in_dir.clone()?)?;
+    push_file(&mut reads, &config.rules.apply)?;
     let mut writes = Items::new(alloc);
     writes.push(config.rules.out_dir.clone()?)?;
     writes.push(config.rules.mapping.clone()?)?;

@@ -4,7 +4,7 @@ ghost use Rattle.std.specs.List.{AllByRecursion};
 ghost use Rattle.class_files.specs.Input.{total};
 ghost use Rattle.command_frame.specs.Steps.{seen};
 ghost use Rattle.batch_command.specs.Finding.{FindsAll};
-ghost use Rattle.batch_command.specs.Jobs.{AreClassFiles, AreInputs, IsInput, IsTaken, bytes_of};
+ghost use Rattle.batch_command.specs.Jobs.{AreInputs, HasNames, IsInput, IsNamed, IsRead, IsTaken, bytes_of};
 ghost use Rattle.batch_command.specs.bodies.Steps.{HasRoom};
 
 use crate::configs::{caught, put};
@@ -25,7 +25,8 @@ pub(crate) fn find_inputs<W: Work, T: Tree>(
     configs: Items<Result<JobConfig, Refusal>>,
     tree: &mut T,
 ) -> Result<Items<Result<JobInput, Refusal>>, Stop>
-    requires { W.ready work.now }
+    requires ready { W.ready work.now }
+    requires names { AllByRecursion IsNamed configs }
     ensures taken { IfOk result (AllByRecursion IsTaken) }
     ensures found { FindsAll result (λ fs. AreInputs W.parts fs configs)
         (seen (T.files tree.old) (T.faults tree.old) (T.log tree.old))
@@ -58,8 +59,9 @@ fn find_input<W: Work, T: Tree>(
     config: Result<JobConfig, Refusal>,
     tree: &mut T,
 ) -> Result<JobInput, Stop>
-    requires { W.ready work.now }
-    ensures taken { IfOk result (λ input. AreClassFiles input.inputs) }
+    requires ready { W.ready work.now }
+    requires names { IsNamed config }
+    ensures taken { IfOk result IsRead }
     ensures found { FindsAll result (λ fs. IsInput W.parts fs config)
         (seen (T.files tree.old) (T.faults tree.old) (T.log tree.old))
         (seen (T.files tree.new) (T.faults tree.new) (T.log tree.new)) }
@@ -77,8 +79,9 @@ fn find_files<W: Work, T: Tree>(
     config: JobConfig,
     tree: &mut T,
 ) -> Result<JobInput, Stop>
-    requires { W.ready work.now }
-    ensures taken { IfOk result (λ input. AreClassFiles input.inputs) }
+    requires ready { W.ready work.now }
+    requires names { HasNames config }
+    ensures taken { IfOk result IsRead }
     ensures found { FindsAll result (λ fs. IsInput W.parts fs (Ok config))
         (seen (T.files tree.old) (T.faults tree.old) (T.log tree.old))
         (seen (T.files tree.new) (T.faults tree.new) (T.log tree.new)) }

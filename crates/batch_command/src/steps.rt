@@ -1,9 +1,10 @@
 // The steps of a batch before it writes.
 ghost use Rattle.std.specs.Prelude.{IfOk};
+ghost use Rattle.std.specs.List.{AllByRecursion};
 ghost use Rattle.command_frame.specs.Steps.{seen};
 ghost use Rattle.batch_command.specs.Batch.{IsDue, IsJoined};
 ghost use Rattle.batch_command.specs.Finding.{FindsAll};
-ghost use Rattle.batch_command.specs.Jobs.{AreAnswers, FollowsApart, FollowsConfigs, FollowsList};
+ghost use Rattle.batch_command.specs.Jobs.{AreAnswers, FollowsApart, FollowsConfigs, FollowsList, IsNamed};
 
 use crate::configs::{find_configs, look_apart};
 use crate::inputs::find_inputs;
@@ -73,7 +74,8 @@ fn answers_of_configs<W: Work, T: Tree>(
     configs: Items<Result<JobConfig, Refusal>>,
     tree: &mut T,
 ) -> Result<Items<Result<Plan, Refusal>>, Stop>
-    requires { W.ready work.now }
+    requires ready { W.ready work.now }
+    requires names { AllByRecursion IsNamed configs }
     ensures { FindsAll result (λ fs. FollowsConfigs W.parts list.now fs configs)
         (seen (T.files tree.old) (T.faults tree.old) (T.log tree.old))
         (seen (T.files tree.new) (T.faults tree.new) (T.log tree.new)) }
@@ -89,7 +91,8 @@ fn answers_apart<W: Work, T: Tree>(
     configs: Items<Result<JobConfig, Refusal>>,
     tree: &mut T,
 ) -> Result<Items<Result<Plan, Refusal>>, Stop>
-    requires { W.ready work.now }
+    requires ready { W.ready work.now }
+    requires names { AllByRecursion IsNamed configs }
     ensures { FindsAll result (λ fs. FollowsApart W.parts fs configs)
         (seen (T.files tree.old) (T.faults tree.old) (T.log tree.old))
         (seen (T.files tree.new) (T.faults tree.new) (T.log tree.new)) }

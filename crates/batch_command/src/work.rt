@@ -1,20 +1,22 @@
 // What a job is.
 ghost use Rattle.std.specs.Prelude.{IfOk};
 ghost use Rattle.command_frame.specs.Steps.{Finds, Makes, seen};
-ghost use Rattle.batch_command.specs.Jobs.{AreClassFiles, Parts};
+ghost use Rattle.batch_command.specs.Jobs.{AreClassFiles, HasNames, IsRead, Parts};
 
 use batch_list::JobFiles;
 use command_frame::{Plan, Stop};
 use jv_base::Items;
 use keep_rules::Rules;
+use mapping_file::Mapping;
 use std::alloc::Global;
 use tree_io::{FileAt, Tree};
 
-/// A job whose config was read.
+/// A job whose config was read, and the earlier mapping that it applies, if any.
 #[derive(Drop)]
 pub struct JobConfig {
     pub files: JobFiles,
     pub rules: Rules,
+    pub earlier: Option<Mapping>,
 }
 
 /// A job whose input was read.
@@ -24,7 +26,8 @@ pub struct JobInput {
     pub inputs: Items<FileAt>,
 }
 
-/// What each job of a batch does, in three parts: it finds its config, finds its input, and makes its plan.
+/// What each job of a batch does, in three parts: it finds its config with the earlier mapping that it names, finds its
+/// input, and makes its plan.
 pub trait Work {
     /// What has to hold of it before a job is done: that it may call what it was handed.
     ghost ready: { Self → Type 0 };
@@ -32,15 +35,16 @@ pub trait Work {
     /// What is due of each part.
     ghost parts: { Parts };
 
-    /// What the config of a job says. No file changes.
+    /// What the config of a job says, and the earlier mapping that it names. No file changes.
     fn find_config<T: Tree>(
         &self,
         alloc: Global,
-        job: &JobFiles,
+        job: JobFiles,
         tree: &mut T,
-    ) -> Result<Rules, Stop>
+    ) -> Result<JobConfig, Stop>
         requires { ready self.now }
-        ensures { Finds result (λ fs. parts.config fs job.now)
+        ensures names { IfOk result HasNames }
+        ensures found { Finds result (λ fs. parts.config fs job)
             (seen (T.files tree.old) (T.faults tree.old) (T.log tree.old))
             (seen (T.files tree.new) (T.faults tree.new) (T.log tree.new)) };
 
@@ -60,6 +64,6 @@ pub trait Work {
     /// What a job is to write and to say.
     fn make_plan(&self, alloc: Global, job: JobInput) -> Result<Plan, Stop>
         requires ready { ready self.now }
-        requires taken { AreClassFiles job.inputs }
+        requires taken { IsRead job }
         ensures { Makes result (parts.plan job) };
 }

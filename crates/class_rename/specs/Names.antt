@@ -1,5 +1,5 @@
 -- New names for old ones (ProGuard manual, "Usage": obfuscation renames classes, fields and methods).
-use Rattle.std.specs.Prelude.{List, ℕ, Option, Some, None}
+use Rattle.std.specs.Prelude.{List, ℕ, Bool, ◌&&◌, Option, Some, None}
 use Rattle.std.specs.Map.{lookup}
 use Rattle.jv_base.specs.Names.{is_text}
 
@@ -23,16 +23,28 @@ or_else None other = other
 abbrev pub new_name : List (List ℕ × List ℕ) → List ℕ → List ℕ
 new_name table name = or_else (lookup (is_text name) table) name
 
--- old names, each with its new one, as tables (the project's own)
+-- the name and the descriptor of a method, which tell it from the others of its class (JVMS 4.6)
+abbrev pub MethodName : Type 0
+MethodName = List ℕ × List ℕ
+
+-- two are the same
+abbrev pub is_same_method : MethodName → MethodName → Bool
+is_same_method a b = is_text a.0 b.0 && is_text a.1 b.1
+
+-- the new name that a table has for a method, else its own (the project's own)
+abbrev pub new_method_name : List (MethodName × List ℕ) → MethodName → List ℕ
+new_method_name table m = or_else (lookup (is_same_method m) table) m.0
+
+-- old names, each with its new one, as tables; those of methods by their names and descriptors (the project's own)
 pub record Tables : Type 0 where
   pub classes : List (List ℕ × List ℕ)
   pub fields : List (List ℕ × List ℕ)
-  pub methods : List (List ℕ × List ℕ)
+  pub methods : List (MethodName × List ℕ)
 
 -- the names that tables tell (the project's own)
 abbrev pub names_in : Tables → Names
 names_in t = record {
   class = new_name t.classes;
   field = new_name t.fields;
-  method = λ name descriptor. new_name t.methods name;
+  method = λ name descriptor. new_method_name t.methods (name, descriptor);
 }

@@ -23,7 +23,7 @@ impl RenameReferences for Method {
     ghost renamed = { renamed_method };
 
     fn rename_references(&mut self, alloc: Global, renamer: &mut Renamer) -> M<()> {
-        self.name = renamer.names().method_of_type(&self.name, &self.ty)?;
+        self.name = renamer.names().method_of_type(alloc, &self.name, &self.ty)?;
         self.ty.rename(alloc, renamer.names())?;
         rename_each(alloc, renamer.names(), &mut self.throws)?;
         if let Some(code) = &mut self.code {

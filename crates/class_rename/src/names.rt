@@ -3,19 +3,20 @@ ghost use Rattle.std.specs.Prelude.{◌≡◌, IfOk, OnOk};
 ghost use Rattle.std.specs.Map.{lookup};
 ghost use Rattle.jv_base.specs.Names.{is_text};
 ghost use Rattle.jv_base.specs.Types.{method_text};
-ghost use Rattle.class_rename.specs.Names.{names_in, new_name};
+ghost use Rattle.class_rename.specs.Names.{names_in, new_method_name, new_name};
 
-use jv_base::{M, MethodType, Name, Text};
+use jv_base::{M, MethodType, Name, Text, method_text};
 use key_table::Table;
+use std::alloc::Global;
 use std::marker::Model;
 
-/// The new names of classes, fields and methods. A name that no table has stays. A look-up takes the logarithm of
-/// how many names there are.
+/// The new names of classes, of fields, and of methods by their names and descriptors. A name that no table has stays.
+/// A look-up takes the logarithm of how many names there are.
 #[derive(Drop)]
 pub struct NewNames {
     classes: Table<Name, Name>,
     fields: Table<Name, Name>,
-    methods: Table<Name, Name>,
+    methods: Table<(Name, Text), Name>,
 }
 
 impl Model for NewNames {
@@ -35,7 +36,7 @@ impl NewNames {
     pub fn new(
         classes: Table<Name, Name>,
         fields: Table<Name, Name>,
-        methods: Table<Name, Name>,
+        methods: Table<(Name, Text), Name>,
     ) -> Self
         ensures { result ≡ record { classes = classes; fields = fields; methods = methods } }
     {
@@ -61,17 +62,38 @@ impl NewNames {
     }
 
     /// The name that methods of this name and this descriptor get.
-    pub fn method(&self, name: &Name, _descriptor: &Text) -> M<Name>
-        ensures { IfOk result (λ new. new ≡ (names_in self.now).method name.now _descriptor.now) }
+    pub fn method(&self, name: &Name, descriptor: &Text) -> M<Name>
+        ensures { IfOk result (λ new. new ≡ (names_in self.now).method name.now descriptor.now) }
     {
-        new_name(&self.methods, name)
+        new_method_name(&self.methods, name, descriptor.clone()?)
     }
 
     /// The name that methods of this name and this type get.
-    pub fn method_of_type(&self, name: &Name, _ty: &MethodType) -> M<Name>
-        ensures { IfOk result (λ new. new ≡ (names_in self.now).method name.now (method_text _ty.now)) }
+    pub fn method_of_type(&self, alloc: Global, name: &Name, ty: &MethodType) -> M<Name>
+        ensures { IfOk result (λ new. new ≡ (names_in self.now).method name.now (method_text ty.now)) }
     {
-        new_name(&self.methods, name)
+        new_method_name(&self.methods, name, method_text(alloc, ty)?)
+    }
+
+    /// The names of classes that these tables have.
+    pub fn classes(&self) -> &Table<Name, Name>
+        ensures { result.now ≡ self.now.classes }
+    {
+        &self.classes
+    }
+
+    /// Those of fields.
+    pub fn fields(&self) -> &Table<Name, Name>
+        ensures { result.now ≡ self.now.fields }
+    {
+        &self.fields
+    }
+
+    /// Those of methods.
+    pub fn methods(&self) -> &Table<(Name, Text), Name>
+        ensures { result.now ≡ self.now.methods }
+    {
+        &self.methods
     }
 
     /// Gives a class its new name.
@@ -100,6 +122,17 @@ fn new_name(table: &Table<Name, Name>, name: &Name) -> M<Name>
     ensures { IfOk result (λ new. new ≡ new_name table.now name.now) }
 {
     match table.get(name) {
+        Some(new) => Ok(new.clone()?),
+        None => Ok(name.clone()?),
+    }
+}
+
+/// The name that a table has for a method of this name and descriptor, else its own.
+fn new_method_name(table: &Table<(Name, Text), Name>, name: &Name, descriptor: Text) -> M<Name>
+    ensures { IfOk result (λ new. new ≡ new_method_name table.now (name.now, descriptor)) }
+{
+    let key = (name.clone()?, descriptor);
+    match table.get(&key) {
         Some(new) => Ok(new.clone()?),
         None => Ok(name.clone()?),
     }

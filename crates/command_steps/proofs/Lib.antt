@@ -1,3 +1,4 @@
 pub mod OneConfig
 pub mod OneStep
 pub mod Systems
+pub mod Earlier

@@ -1,5 +1,6 @@
 -- The texts that join an output to its input (the project's own: what commands look at).
-use Rattle.std.specs.Prelude.{◌≡◌, ℕ, List, Result, Ok, Err}
+use Rattle.std.specs.Prelude.{◌≡◌, ℕ, List, Option, Some, None, Result, Ok, Err}
+use Rattle.tree_io.specs.Files.{Files}
 use Rattle.mapping_file.specs.KindNames.{map_kind_name}
 use Rattle.mapping_file.specs.MapReading.{read_mapping}
 use Rattle.mapping_file.specs.declared.mapping.MapFault.{MapFault}
@@ -9,6 +10,8 @@ use Rattle.witness_file.specs.WitnessReading.{read_witness}
 use Rattle.witness_file.specs.declared.witness.WitFault.{WitFault}
 use Rattle.witness_file.specs.declared.witness.Witness.{Witness}
 use Rattle.command_frame.specs.Refusal.{text_refused}
+use Rattle.command_frame.specs.Steps.{IsFile, Then}
+use Rattle.command_frame.specs.declared.refusal.Quantity.TheVariants as quantity
 use Rattle.command_frame.specs.declared.refusal.Refusal.{Refusal}
 
 -- the mapping of a text, or its first fault
@@ -26,3 +29,18 @@ or_bad_witness (Err f) = Err (text_refused f.line (wit_kind_name f.kind))
 
 abbrev pub IsWitness : List ℕ → Result Witness Refusal → Type 0
 IsWitness text due = due ≡ or_bad_witness (read_witness text)
+
+-- ---- an earlier mapping (ProGuard manual, "-applymapping")
+
+-- that of a text
+abbrev pub AreEarlier : List ℕ → Result (Option Mapping) Refusal → Type 0
+AreEarlier text = Then (IsMapping text) (λ mapping due. due ≡ Ok (Some mapping))
+
+-- that of the told file at a path
+abbrev pub IsEarlierAt : Files → List ℕ → Result (Option Mapping) Refusal → Type 0
+IsEarlierAt files path = Then (IsFile files quantity.Mapping path) AreEarlier
+
+-- the same, or none where no path is given
+abbrev pub IsEarlier : Files → Option (List ℕ) → Result (Option Mapping) Refusal → Type 0
+IsEarlier files None due = due ≡ Ok None
+IsEarlier files (Some path) due = IsEarlierAt files path due

@@ -15,4 +15,4 @@ pub use laws::{configs_are_read, one_config};
 pub use refusals::name_or_dash;
 pub use set::set_of;
 pub use system::requirements;
-pub use texts::{mapping_in, witness_in};
+pub use texts::{find_earlier, mapping_in, witness_in};

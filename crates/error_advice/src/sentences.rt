@@ -87,7 +87,7 @@ fn rules_advice(rest: &str) -> Option<&'static str> {
         "BadValue" => Some(value_advice(option)),
         "MissingName" => Some(
             "a value is missing: an option ends before it, or a rule before the name of a class; \
-                -printmapping, -printseeds and -printusage need a file here",
+                -printmapping, -printseeds, -printusage and -applymapping need a file here",
         ),
         "Repeated" => Some(
             "this option may stand once; for several input directories copy them into one",
@@ -116,7 +116,12 @@ fn rules_advice(rest: &str) -> Option<&'static str> {
 // A value of an option that isn't what it has to be.
 fn value_advice(option: &str) -> &'static str {
     match option {
-        "-injars" | "-outjars" | "-printmapping" | "-printseeds" | "-printusage" =>
+        "-injars"
+        | "-outjars"
+        | "-printmapping"
+        | "-printseeds"
+        | "-printusage"
+        | "-applymapping" =>
             "a path has no ./, ../ or // in it: in and not ./in; only a directory may have a / at its end",
         "-keepattributes" | "-renamesourcefileattribute" =>
             "a filter is patterns with commas between, each perhaps behind a !",
@@ -252,6 +257,9 @@ fn clause_advice(rest: &str) -> Option<&'static str> {
         "CodeDiffers" => Some(
             "the code, or its lines, isn't that of the input under new names: it was optimised otherwise \
                 than the witness tells, or -keepattributes LineNumberTable isn't in both configs",
+        ),
+        "LineRange" => Some(
+            "a line of its code lies outside the range that the mapping tells: is it the mapping of this output?",
         ),
         _ => None,
     }

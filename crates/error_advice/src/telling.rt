@@ -133,7 +133,8 @@ fn tell_text<R: Eprint, T: Tree>(
 }
 
 // The text that is at fault, and its path: `check` reads the config, the mapping and the witness, in this order,
-// `compare` the config and the mapping, `retrace` the mapping and the trace, and `batch` the list before all others.
+// `shrink` and `compare` the config and the mapping, `retrace` the mapping and the trace, and `batch` the list before all
+// others.
 fn faulty_text<T: Tree>(
     alloc: Global,
     words: &[Text],
@@ -142,7 +143,7 @@ fn faulty_text<T: Tree>(
     let (mapping, witness) = match tree.texts.as_slice() {
         [_, mapping, witness] => (mapping.clone()?, witness.clone()?),
         [list] if is_batch(words) => return Ok(Some(("list", list.clone()?))),
-        [_, mapping] if is_compare(words) => return Ok(Some(("mapping", mapping.clone()?))),
+        [_, mapping] if has_config(words) => return Ok(Some(("mapping", mapping.clone()?))),
         [mapping, _] => return Ok(Some(("mapping", mapping.clone()?))),
         _ => return Ok(None),
     };
@@ -158,11 +159,11 @@ fn is_batch(words: &[Text]) -> bool {
     matches!(words.first(), Some(word) if word.as_str() == "batch")
 }
 
-// Whether the command is `compare`: of the commands that read a mapping, the first one that is named.
-fn is_compare(words: &[Text]) -> bool {
+// Whether the first of two texts is a config: of the commands that read a mapping, the first one that is named.
+fn has_config(words: &[Text]) -> bool {
     for word in words {
         match word.as_str() {
-            "compare" => return true,
+            "shrink" | "compare" => return true,
             "check" | "retrace" => return false,
             _ => {}
         }

@@ -4,6 +4,7 @@ pub mod Tables
 pub mod Once
 pub mod Reserved
 pub mod Found
+pub mod Groups
 pub mod OneMore
 pub mod Fronts
 pub mod Letters

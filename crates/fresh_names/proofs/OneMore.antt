@@ -1,202 +1,239 @@
--- One name more is given.
+-- One fresh name more is given.
 use Rattle.std.proofs.Common.{◌≡◌, ℕ, ◌+◌, Bool, true, false, cond, ◌||◌, List, [], ◌∷◌, ◌++◌, Option, Some, None}
-use Rattle.std.proofs.Common.{is_some, map, Result, OnOk, refl, sym, ap, ◌∙◌, subst}
+use Rattle.std.proofs.Common.{is_some, append_assoc, map, refl, sym, ap, subst, Result, OnOk, ◌∙◌}
 use Rattle.std.specs.Prelude.{nat_eq}
+use Rattle.std.specs.Cmp.{IsEquivalence}
 use Rattle.std.specs.Cmp.Lexicographic.{nat_list_eq_equiv, pointwise}
-use Rattle.key_table.proofs.Found.{found_inserted}
-use Rattle.std.specs.Map.{lookup}
-use Rattle.std.proofs.lemmas.List.{append-nil}
-use Rattle.std.proofs.lemmas.List.Elements.{filter-append}
-use Rattle.std.proofs.lemmas.Result.{on_ok_weaker}
+use Rattle.std.specs.Map.{keys_of, lookup}
 use Rattle.std.proofs.lemmas.Bool.{or_parts}
+use Rattle.std.proofs.lemmas.List.{append-nil}
+use Rattle.std.proofs.lemmas.Result.{on_ok_weaker}
 use Rattle.indexmap.specs.IndexMap.{insert_entry}
+use Rattle.key_table.proofs.Found.{found_inserted}
 use Rattle.jv_base.specs.Names.{is_text}
 use Rattle.jv_base.proofs.Equality.{same_text, text_is}
-use Rattle.class_rename.specs.Names.{new_name, or_else}
+use Rattle.class_rename.specs.Names.{MethodName, is_same_method, or_else}
 use Rattle.fresh_names.specs.Fresh.{fresh, given, is_taken, next_free}
-use Rattle.fresh_names.specs.Given.{given_name, olds, once, with_front}
-use Rattle.fresh_names.specs.bodies.Giving.{IsGiven, after, number_of}
-use Rattle.fresh_names.proofs.Found.{after_last, given_found, given_last, lookup_last, or_first}
-use Rattle.fresh_names.proofs.Once.{kept_taken, olds_new, olds_taken, olds_there, one_kept}
+use Rattle.fresh_names.specs.Given.{NameTable, news_of, of_type, olds}
+use Rattle.fresh_names.specs.bodies.Giving.{HasAll, HasNews, IsApplied, IsGiven, after, first, in_group, number_of, others}
+use Rattle.fresh_names.specs.bodies.Giving.{skipped, table_so_far}
+use Rattle.fresh_names.proofs.Free.{same_next}
+use Rattle.fresh_names.proofs.Found.{after_last, given_found, given_last, or_first}
+use Rattle.fresh_names.proofs.Groups.{group_more, key_found, more_found, other_group}
+use Rattle.fresh_names.proofs.Once.{olds_new, olds_taken, olds_there}
+use Rattle.fresh_names.proofs.Reserved.{taken_parts}
 
-module _ (front : List ℕ → List ℕ) (taken done : List (List ℕ)) where
-  -- nothing is given yet
-  pub none_given : IsGiven front taken [] [] []
-  unfolding given after once
-  none_given = record { found = λ a. refl; counted = λ p. refl }
+-- what is found in two tables behind each other
+pub lookup_parts : (a : List ℕ) (s t : NameTable)
+    → lookup (is_text a) (s ++ t) ≡ or_first (lookup (is_text a) s) (lookup (is_text a) t)
+lookup_parts a [] t = refl
+lookup_parts a (e ∷ s) t = by (is_text a e.0) (lookup_parts a s t)
+  where
+    by : (b : Bool) → lookup (is_text a) (s ++ t) ≡ or_first (lookup (is_text a) s) (lookup (is_text a) t)
+        → cond b (Some e.1) (lookup (is_text a) (s ++ t))
+        ≡ or_first (cond b (Some e.1) (lookup (is_text a) s)) (lookup (is_text a) t)
+    by true rest = refl
+    by false rest = rest
+
+pub some_first : (o p : Option (List ℕ)) → is_some (or_first o p) ≡ (is_some o || is_some p)
+some_first None p = refl
+some_first (Some v) p = refl
+
+module _ {K : Type 0} (same : K → K → Bool) (laws : IsEquivalence same) (pair : K → MethodName)
+    (apart : (a b : K) → same a b ≡ is_same_method (pair a) (pair b))
+    (told : List ℕ → List ℕ → Option (List ℕ)) (stays : List ℕ → List (List ℕ)) (front : List ℕ → List ℕ)
+    (keys : List K) where
+  abbrev Given : List K → List (K × List ℕ) → List (List ℕ × ℕ) → Type 0
+  Given done table next = IsGiven same pair told stays front keys done table next
+
+  abbrev firsts : List ℕ → NameTable
+  firsts p = first pair told stays p keys
+
+  abbrev settled : List ℕ → List (List ℕ)
+  settled p = stays p ++ keys_of (firsts p)
+
+  abbrev skips : List ℕ → List (List ℕ)
+  skips p = skipped pair told stays keys p
+
+  abbrev left : List ℕ → List K → List (List ℕ)
+  left p done = others pair told stays keys p done
+
+  abbrev so_far : List K → List ℕ → NameTable
+  so_far done p = table_so_far pair told stays keys front done p
+
+  -- nothing is given yet but what the earlier mapping gives
+  pub none_given : (table : List (K × List ℕ)) (news : List MethodName)
+      → IsApplied same pair told stays keys table news → Given [] table []
+  unfolding given after Rattle.fresh_names.specs.Given.once
+  none_given table news g = record {
+    found = λ k. g.found k ∙ ap (lookup (is_text (pair k).0)) (sym (append-nil (firsts (pair k).1)));
+    counted = λ p. refl;
+  }
 
   -- what was given is what is to be given
-  pub is_given : (table : List (List ℕ × List ℕ)) (next : List (List ℕ × ℕ)) → IsGiven front taken done table next
-      → (a : List ℕ) → new_name table a ≡ given_name front taken done a
-  is_given table next g a = ap (λ (o : Option (List ℕ)). or_else o a) (g.found a)
+  pub all_given : (table : List (K × List ℕ)) (next : List (List ℕ × ℕ)) → Given keys table next
+      → HasAll same pair told stays front keys table
+  all_given table next g = g.found
 
-  same_front_passes : (a : List ℕ) → is_text (front a) (front a) ≡ true
-  same_front_passes a = text_is (front a) (front a) refl
+  module _ (done : List K) (table : List (K × List ℕ)) (next : List (List ℕ × ℕ)) (x : K) (g : Given done table next) where
+    abbrev n : List ℕ
+    n = (pair x).0
 
-  -- a name is in the table where it is among those that got one
-  table_taken : (table : List (List ℕ × List ℕ)) (next : List (List ℕ × ℕ)) → IsGiven front taken done table next
-      → (a : List ℕ) → is_some (lookup (is_text a) table) ≡ is_taken (olds taken done) a
-  table_taken table next g a =
-      ap is_some (g.found a) ∙ given_found (front a) taken 0 (with_front front (front a) (olds taken done)) a
-      ∙ kept_taken (λ b. is_text (front a) (front b)) a (olds taken done) (same_front_passes a)
+    abbrev here : List ℕ
+    here = (pair x).1
 
-  same_olds : (table : List (List ℕ × List ℕ)) (next : List (List ℕ × ℕ)) (x : List ℕ)
-      → olds taken (done ++ x ∷ []) ≡ olds taken done → IsGiven front taken done table next
-      → IsGiven front taken (done ++ x ∷ []) table next
-  same_olds table next x same g = record {
-    found = λ a. g.found a
-        ∙ ap (λ (l : List (List ℕ)). lookup (is_text a) (given (front a) taken 0 (with_front front (front a) l)))
-        (sym same);
-    counted = λ p. g.counted p ∙ ap (λ (l : List (List ℕ)). after p taken 0 (with_front front p l)) (sym same);
-  }
+    -- a key is in the table where it has one from the earlier mapping, or a fresh one
+    key_there : is_some (lookup (same x) table) ≡ (is_taken (keys_of (firsts here)) n || is_taken (left here done) n)
+    key_there =
+        ap is_some (g.found x ∙ lookup_parts n (firsts here) (given (front here) (skips here) 0 (left here done)))
+        ∙ some_first (lookup (is_text n) (firsts here))
+        (lookup (is_text n) (given (front here) (skips here) 0 (left here done)))
+        ∙ (λ i. key_found (firsts here) n i || given_found (front here) (skips here) 0 (left here done) n i)
 
-  -- a name that is taken, or has a new one, changes nothing
-  pub gives_nothing : (table : List (List ℕ × List ℕ)) (next : List (List ℕ × ℕ)) (x : List ℕ)
-      → (is_taken taken x || is_some (lookup (is_text x) table)) ≡ true → IsGiven front taken done table next
-      → IsGiven front taken (done ++ x ∷ []) table next
-  gives_nothing table next x is g = on (is_taken taken x) refl is
-    where
-      on : (b : Bool) → is_taken taken x ≡ b → (b || is_some (lookup (is_text x) table)) ≡ true
-          → IsGiven front taken (done ++ x ∷ []) table next
-      on true e h = same_olds table next x (olds_taken taken done x e) g
-      on false e h = same_olds table next x (olds_there taken done x (sym (table_taken table next g x) ∙ h)) g
+    grown : in_group pair here (done ++ x ∷ []) ≡ in_group pair here done ++ n ∷ []
+    grown = group_more same laws pair apart here done x true (text_is here here refl)
 
--- what there is where nothing else is
-kept_first : (o : Option (List ℕ)) → o ≡ or_first o None
-kept_first None = refl
-kept_first (Some v) = refl
+    others_left : (p : List ℕ) → is_text p here ≡ false → left p (done ++ x ∷ []) ≡ left p done
+    others_left p e = ap (olds (settled p)) (other_group same laws pair apart p done x e)
 
-none_of : (o : Option (List ℕ)) → is_some o ≡ false → o ≡ None
-none_of None e = refl
-none_of (Some v) e = absurd cc
+    -- a name that stays, or has a new one, changes nothing
+    pub gives_nothing : (is_some (lookup (same x) table) || is_taken (stays here) n) ≡ true
+        → Given (done ++ x ∷ []) table next
+    gives_nothing is = record {
+      found = λ k. g.found k ∙ ap (λ (l : List (List ℕ)). lookup (is_text (pair k).0)
+          (firsts (pair k).1 ++ given (front (pair k).1) (skips (pair k).1) 0 l)) (sym (all (pair k).1));
+      counted = λ p. g.counted p ∙ ap (λ (l : List (List ℕ)). after (front p) (skips p) 0 l) (sym (all p));
+    }
+      where
+        three : (a b c : Bool) → ((b || c) || a) ≡ true → (a || b) ≡ false → c ≡ true
+        three true b c h f = absurd cc
+        three false true c h f = absurd cc
+        three false false true h f = refl
+        three false false false h f = h
 
--- another name gets the next that is free in its front
-module _ (front : List ℕ → List ℕ) (taken done : List (List ℕ)) (table : List (List ℕ × List ℕ))
-    (next : List (List ℕ × ℕ))
-    (x : List ℕ) (isnt : (is_taken taken x || is_some (lookup (is_text x) table)) ≡ false)
-    (g : IsGiven front taken done table next) where
-  abbrev number : List ℕ → ℕ
-  number p = next_free p taken (number_of next p)
+        mine : (b : Bool) → is_taken (settled here) n ≡ b → left here (done ++ x ∷ []) ≡ left here done
+        mine true e = ap (olds (settled here)) grown ∙ olds_taken (settled here) (in_group pair here done) n e
+        mine false e = ap (olds (settled here)) grown
+            ∙ olds_there (settled here) (in_group pair here done) n
+            (three (is_taken (stays here) n) (is_taken (keys_of (firsts here)) n) (is_taken (left here done) n)
+            (ap (λ (b : Bool). b || is_taken (stays here) n) (sym key_there) ∙ is)
+            (sym (taken_parts (stays here) (keys_of (firsts here)) n) ∙ e))
 
-  -- the names of a front so far
-  abbrev before : List ℕ → List (List ℕ)
-  before p = with_front front p (olds taken done)
+        all : (p : List ℕ) → left p (done ++ x ∷ []) ≡ left p done
+        all p = by (is_text p here) refl
+          where
+            by : (b : Bool) → is_text p here ≡ b → left p (done ++ x ∷ []) ≡ left p done
+            by true e =
+                let q = same_text p here e in
+                ap (λ (r : List ℕ). left r (done ++ x ∷ [])) q ∙ mine (is_taken (settled here) n) refl
+                ∙ ap (λ (r : List ℕ). left r done) (sym q)
+            by false e = others_left p e
 
-  abbrev new : List ℕ
-  new = fresh (front x) (number (front x))
+    -- another name gets the next that is free in its group
+    module _ (isnt : (is_some (lookup (same x) table) || is_taken (stays here) n) ≡ false) where
+      abbrev number : List ℕ → ℕ
+      number p = next_free (front p) (skips p) (number_of next p)
 
-  -- and with the name
-  abbrev with_x : List ℕ → List (List ℕ)
-  with_x p = with_front front p (olds taken (done ++ x ∷ []))
+      abbrev new : List ℕ
+      new = fresh (front here) (number here)
 
-  unnamed : is_some (lookup (is_text x) table) ≡ false
-  unnamed = (or_parts (is_taken taken x) (is_some (lookup (is_text x) table)) isnt).1
+      unnamed : (is_some (lookup (same x) table) ≡ false) × (is_taken (stays here) n ≡ false)
+      unnamed = or_parts (is_some (lookup (same x) table)) (is_taken (stays here) n) isnt
 
-  more : olds taken (done ++ x ∷ []) ≡ olds taken done ++ x ∷ []
-  more = olds_new taken done x (or_parts (is_taken taken x) (is_some (lookup (is_text x) table)) isnt).0
-      (sym (table_taken front taken done table next g x) ∙ unnamed)
+      more : left here (done ++ x ∷ []) ≡ left here done ++ n ∷ []
+      more =
+          let parts = or_parts (is_taken (keys_of (firsts here)) n) (is_taken (left here done) n)
+          (sym key_there ∙ unnamed.0) in
+          ap (olds (settled here)) grown
+          ∙ olds_new (settled here) (in_group pair here done) n
+          (taken_parts (stays here) (keys_of (firsts here)) n
+          ∙ (λ i. unnamed.1 i || parts.0 i))
+          parts.1
 
-  more_fronts : (p : List ℕ) (b : Bool) → is_text p (front x) ≡ b → with_x p ≡ before p ++ cond b (x ∷ []) []
-  more_fronts p b e =
-      ap (λ (l : List (List ℕ)). with_front front p l) more
-      ∙ filter-append (λ a. is_text p (front a)) (olds taken done) (x ∷ [])
-      ∙ ap (λ (l : List (List ℕ)). before p ++ l) (one_kept (λ a. is_text p (front a)) x b e)
+      last : so_far (done ++ x ∷ []) here ≡ so_far done here ++ (n, new) ∷ []
+      last =
+          ap (λ (l : List (List ℕ)). firsts here ++ given (front here) (skips here) 0 l) more
+          ∙ ap (λ (t : NameTable). firsts here ++ t) (given_last (front here) (skips here) 0 (left here done) n)
+          ∙ ap (λ (k : ℕ). firsts here ++ (given (front here) (skips here) 0 (left here done)
+          ++ (n, fresh (front here) (next_free (front here) (skips here) k)) ∷ [])) (sym (g.counted here))
+          ∙ sym (append_assoc (firsts here) (given (front here) (skips here) 0 (left here done)) ((n, new) ∷ []))
 
-  -- a name of this front
-  here : (a : List ℕ) → front a ≡ front x
-      → lookup (is_text a) (given (front a) taken 0 (with_x (front a)))
-      ≡ or_first (lookup (is_text a) table) (cond (is_text a x) (Some new) None)
-  here a same =
-      ap (λ (l : List (List ℕ)). lookup (is_text a) (given (front a) taken 0 l))
-      (more_fronts (front a) true (text_is (front a) (front x) same))
-      ∙ ap (λ (l : List (List ℕ × List ℕ)). lookup (is_text a) l) (given_last (front a) taken 0 (before (front a)) x)
-      ∙ lookup_last (is_text a) (given (front a) taken 0 (before (front a)))
-      (x, fresh (front a) (next_free (front a) taken (after (front a) taken 0 (before (front a)))))
-      ∙ ap (λ (o : Option (List ℕ)). or_first o (cond (is_text a x)
-      (Some (fresh (front a) (next_free (front a) taken (after (front a) taken 0 (before (front a)))))) None))
-      (sym (g.found a))
-      ∙ ap (λ (n : ℕ). or_first (lookup (is_text a) table)
-      (cond (is_text a x) (Some (fresh (front a) (next_free (front a) taken n))) None))
-      (sym (g.counted (front a)))
-      ∙ ap (λ (p : List ℕ). or_first (lookup (is_text a) table)
-      (cond (is_text a x) (Some (fresh p (number p))) None)) same
+      count_by : (p : List ℕ) (b : Bool) → is_text p here ≡ b
+          → or_else (cond b (Some (number here + 1)) (lookup (is_text p) next)) 0
+          ≡ after (front p) (skips p) 0 (left p (done ++ x ∷ []))
+      count_by p true e =
+          let q = same_text p here e in
+          ap (λ (k : ℕ). next_free (front here) (skips here) k + 1) (g.counted here)
+          ∙ sym (after_last (front here) (skips here) 0 (left here done) n)
+          ∙ ap (λ (l : List (List ℕ)). after (front here) (skips here) 0 l) (sym more)
+          ∙ ap (λ (r : List ℕ). after (front r) (skips r) 0 (left r (done ++ x ∷ []))) (sym q)
+      count_by p false e =
+          g.counted p ∙ ap (λ (l : List (List ℕ)). after (front p) (skips p) 0 l) (sym (others_left p e))
 
-  -- a name of another one
-  there : (a : List ℕ) → is_text (front a) (front x) ≡ false
-      → lookup (is_text a) (given (front a) taken 0 (with_x (front a))) ≡ lookup (is_text a) table
-  there a apart =
-      ap (λ (l : List (List ℕ)). lookup (is_text a) (given (front a) taken 0 l))
-      (more_fronts (front a) false apart ∙ append-nil (before (front a)))
-      ∙ sym (g.found a)
+      pub gives : Given (done ++ x ∷ []) (insert_entry same table x new)
+          (insert_entry (pointwise nat_eq) next here (number here + 1))
+      gives = record {
+        found = more_found same laws pair apart table (so_far done) (so_far (done ++ x ∷ [])) x new g.found unnamed.0 last
+            (λ p e. ap (λ (l : List (List ℕ)). firsts p ++ given (front p) (skips p) 0 l) (others_left p e));
+        counted = λ p. ap (λ (o : Option ℕ). or_else o 0)
+            (found_inserted (pointwise nat_eq) nat_list_eq_equiv next here (number here + 1) p)
+            ∙ count_by p (is_text p here) refl;
+      }
 
-  named : (a : List ℕ) (b : Bool) → is_text a x ≡ b
-      → cond b (Some new) (lookup (is_text a) table) ≡ or_first (lookup (is_text a) table) (cond b (Some new) None)
-  named a true e =
-      sym (ap (λ (o : Option (List ℕ)). or_first o (Some new))
-      (none_of (lookup (is_text a) table)
-      (ap (λ (t : List ℕ). is_some (lookup (is_text t) table)) (same_text a x e) ∙ unnamed)))
-  named a false e = kept_first (lookup (is_text a) table)
+-- the same by steps, as code does it
+module _ {K : Type 0} (same : K → K → Bool) (laws : IsEquivalence same) (pair : K → MethodName)
+    (apart : (a b : K) → same a b ≡ is_same_method (pair a) (pair b))
+    (told : List ℕ → List ℕ → Option (List ℕ)) (stays : List ℕ → List (List ℕ)) (front : List ℕ → List ℕ)
+    (keys done : List K) (table : List (K × List ℕ)) (next : List (List ℕ × ℕ)) (x : K)
+    (g : IsGiven same pair told stays front keys done table next) (member : MethodName) (is_member : member ≡ pair x)
+  where
+    has_so : (b : Bool) → (is_some (lookup (same x) table) || is_taken (stays member.1) member.0) ≡ b
+        → (is_some (lookup (same x) table) || is_taken (stays (pair x).1) (pair x).0) ≡ b
+    has_so b h = ap (λ (m : MethodName). is_some (lookup (same x) table) || is_taken (stays m.1) m.0) (sym is_member) ∙ h
 
-  apart_names : (a : List ℕ) → is_text (front a) (front x) ≡ false → (b : Bool) → is_text a x ≡ b → b ≡ false
-  apart_names a apart false e = refl
-  apart_names a apart true e = absurd (
-      let w : true ≡ false = sym (text_is (front a) (front x) (ap front (same_text a x e))) ∙ apart in
-      cc)
+    pub gives_not : (is_some (lookup (same x) table) || is_taken (stays member.1) member.0) ≡ true
+        → IsGiven same pair told stays front keys (done ++ x ∷ []) table next
+    gives_not h = gives_nothing same laws pair apart told stays front keys done table next x g (has_so true h)
 
-  by_front : (a : List ℕ) (b : Bool) → is_text (front a) (front x) ≡ b
-      → cond (is_text a x) (Some new) (lookup (is_text a) table)
-      ≡ lookup (is_text a) (given (front a) taken 0 (with_x (front a)))
-  by_front a true e = named a (is_text a x) refl ∙ sym (here a (same_text (front a) (front x) e))
-  by_front a false e =
-      ap (λ (b : Bool). cond b (Some new) (lookup (is_text a) table)) (apart_names a e (is_text a x) refl)
-      ∙ sym (there a e)
+    pub given_by_steps : {T E : Type 0} → (is_some (lookup (same x) table) || is_taken (stays member.1) member.0) ≡ false
+        → (news : List MethodName) → HasNews pair told stays keys news
+        → (from : ℕ) → from ≡ number_of next member.1
+        → (number : ℕ) → number ≡ next_free (front member.1) (stays member.1 ++ of_type member.1 news) from
+        → (start : List ℕ) → start ≡ front member.1 → (name : List ℕ) → name ≡ fresh start number
+        → (behind : ℕ) → behind ≡ number + 1 → (grown : List (K × List ℕ)) → grown ≡ insert_entry same table x name
+        → (r : Result T E) (later : List (List ℕ × ℕ))
+        → OnOk r (later ≡ insert_entry (pointwise nat_eq) next member.1 behind)
+        → OnOk r (IsGiven same pair told stays front keys (done ++ x ∷ []) grown later)
+    given_by_steps isnt news has from from_is number number_is start start_is name name_is behind behind_is grown grows r
+        later counts =
+        on_ok_weaker r (λ counted.
+        subst (λ (n : List (List ℕ × ℕ)). IsGiven same pair told stays front keys (done ++ x ∷ []) grown n)
+        ((λ i. insert_entry (pointwise nat_eq) next (sym here i) (number_so i + 1))
+        ∙ ap (insert_entry (pointwise nat_eq) next member.1) (sym behind_is) ∙ sym counted)
+        (subst (λ (t : List (K × List ℕ)). IsGiven same pair told stays front keys (done ++ x ∷ []) t
+        (insert_entry (pointwise nat_eq) next (pair x).1
+        (next_free (front (pair x).1) (skipped pair told stays keys (pair x).1) (number_of next (pair x).1) + 1)))
+        (ap (insert_entry same table x)
+        ((λ i. fresh (front (sym here i)) (number_so i)) ∙ ap (λ (p : List ℕ). fresh p number) (sym start_is) ∙ sym name_is)
+        ∙ sym grows)
+        (gives same laws pair apart told stays front keys done table next x g (has_so false isnt)))) counts
+      where
+        here : member.1 ≡ (pair x).1
+        here = ap (λ (m : MethodName). m.1) is_member
 
-  count_by : (p : List ℕ) (b : Bool) → is_text p (front x) ≡ b
-      → or_else (cond b (Some (number (front x) + 1)) (lookup (is_text p) next)) 0 ≡ after p taken 0 (with_x p)
-  count_by p true e =
-      ap (λ (q : List ℕ). number q + 1) (sym (same_text p (front x) e))
-      ∙ ap (λ (n : ℕ). next_free p taken n + 1) (g.counted p)
-      ∙ sym (after_last p taken 0 (before p) x)
-      ∙ ap (λ (l : List (List ℕ)). after p taken 0 l) (sym (more_fronts p true e))
-  count_by p false e =
-      g.counted p
-      ∙ ap (λ (l : List (List ℕ)). after p taken 0 l) (sym (more_fronts p false e ∙ append-nil (before p)))
-
-  pub gives : IsGiven front taken (done ++ x ∷ []) (insert_entry (pointwise nat_eq) table x new)
-      (insert_entry (pointwise nat_eq) next (front x) (number (front x) + 1))
-  gives = record {
-    found = λ a. found_inserted (pointwise nat_eq) nat_list_eq_equiv table x new a
-        ∙ by_front a (is_text (front a) (front x)) refl;
-    counted = λ p. ap (λ (o : Option ℕ). or_else o 0)
-        (found_inserted (pointwise nat_eq) nat_list_eq_equiv next (front x) (number (front x) + 1) p)
-        ∙ count_by p (is_text p (front x)) refl;
-  }
-
--- a name is given by steps
-pub given_by_steps : {T E : Type 0} (front_of : List ℕ → List ℕ) (taken done : List (List ℕ))
-    (table grown : List (List ℕ × List ℕ))
-    (next later : List (List ℕ × ℕ)) (front x new : List ℕ) (number behind : ℕ) (r : Result T E) → front_of x ≡ front
-    → (is_taken taken x || is_some (lookup (is_text x) table)) ≡ false
-    → number ≡ next_free front taken (number_of next front) → new ≡ fresh front number → behind ≡ number + 1
-    → grown ≡ insert_entry (pointwise nat_eq) table x new
-    → OnOk r (later ≡ insert_entry (pointwise nat_eq) next front behind)
-    → IsGiven front_of taken done table next → OnOk r (IsGiven front_of taken (done ++ x ∷ []) grown later)
-given_by_steps front_of taken done table grown next later front x new number behind r same isnt next_is new_is
-    behind_is grows counts g =
-    on_ok_weaker r (λ counted.
-    subst (λ (n : List (List ℕ × ℕ)). IsGiven front_of taken (done ++ x ∷ []) grown n)
-    (ap (λ (p : List ℕ). insert_entry (pointwise nat_eq) next p (next_free p taken (number_of next p) + 1)) same
-    ∙ ap (λ (n : ℕ). insert_entry (pointwise nat_eq) next front (n + 1)) (sym next_is)
-    ∙ ap (insert_entry (pointwise nat_eq) next front) (sym behind_is) ∙ sym counted)
-    (subst (λ (t : List (List ℕ × List ℕ)). IsGiven front_of taken (done ++ x ∷ []) t
-    (insert_entry (pointwise nat_eq) next (front_of x)
-    (next_free (front_of x) taken (number_of next (front_of x)) + 1)))
-    (ap (λ (p : List ℕ). insert_entry (pointwise nat_eq) table x (fresh p (next_free p taken (number_of next p)))) same
-    ∙ ap (λ (n : ℕ). insert_entry (pointwise nat_eq) table x (fresh front n)) (sym next_is)
-    ∙ ap (insert_entry (pointwise nat_eq) table x) (sym new_is) ∙ sym grows)
-    (gives front_of taken done table next x isnt g))) counts
+        -- only what is skipped matters
+        number_so : next_free (front (pair x).1) (skipped pair told stays keys (pair x).1) (number_of next (pair x).1)
+            ≡ number
+        number_so =
+            ap (λ (p : List ℕ). next_free (front p) (skipped pair told stays keys p) (number_of next p)) (sym here)
+            ∙ same_next (front member.1) (skipped pair told stays keys member.1) (stays member.1 ++ of_type member.1 news)
+            (λ a. taken_parts (stays member.1) (news_of (first pair told stays member.1 keys)) a
+            ∙ ap (λ (b : Bool). is_taken (stays member.1) a || b) (sym (has member.1 a))
+            ∙ sym (taken_parts (stays member.1) (of_type member.1 news) a)) (number_of next member.1)
+            ∙ ap (next_free (front member.1) (stays member.1 ++ of_type member.1 news)) (sym from_is)
+            ∙ sym number_is
 
 -- the names of a slice of what a class has
-pub same_done : {A : Type 0} (name : A → List ℕ) (done : List (List ℕ)) (slice parts : List A) (whole : List (List ℕ))
+pub same_done : {A B : Type 0} (name : A → B) (done : List B) (slice parts : List A) (whole : List B)
     → slice ≡ parts → done ++ map name parts ≡ whole → done ++ map name slice ≡ whole
 same_done name done slice parts whole same is = ap (λ l. done ++ map name l) same ∙ is

@@ -1,9 +1,12 @@
 // New names in their order (ProGuard manual, "Usage": short names).
 ghost use Rattle.std.specs.Prelude.{◌≡◌, ◌++◌, ◌+◌, ◌<◌, ◌∷◌, [], IfOk, OnOk, string_bytes};
 ghost use Rattle.fresh_names.specs.Fresh.{fresh, is_taken, letter, name_at, next_free};
+ghost use Rattle.fresh_names.specs.Given.{of_type};
+ghost use Rattle.fresh_names.specs.bodies.Giving.{front_in, stays_in};
 
-use crate::taken::TakenSet;
+use crate::stays::Stays;
 use jv_base::{M, Name, OutOfMemory, Text};
+use key_table::KeySet;
 use std::alloc::Global;
 
 /// Appends the name with a number: a to z, aa, ab and so on.
@@ -45,22 +48,40 @@ pub(crate) fn number_after(number: u32) -> M<u32>
     Ok(number + 1)
 }
 
-/// Whether the name with a number is taken.
-fn is_taken(alloc: Global, front: &Text, taken: &TakenSet, number: u32) -> M<bool>
-    ensures { IfOk result (λ is. is ≡ is_taken taken.now (fresh front.now number)) }
+/// Whether the name with a number stays in a group, or was given there.
+#[tactic(auto, using(crate::proofs::Groups::skipped_parts))]
+fn is_skipped(
+    alloc: Global,
+    stays: &Stays,
+    news: &KeySet<(Name, Text)>,
+    group: &Text,
+    number: u32,
+) -> M<bool>
+    ensures { IfOk result (λ is. is ≡ is_taken (stays_in stays.now group.now ++ of_type group.now news.now)
+        (fresh (front_in stays.now group.now) number)) }
 {
-    let name = fresh_name(alloc, front, number)?;
-    Ok(taken.has(&name))
+    let front = stays.front(alloc, group)?;
+    let member = (fresh_name(alloc, &front, number)?, group.clone()?);
+    let stands = stays.has(&member);
+    let is_given = news.has(&member);
+    Ok(stands || is_given)
 }
 
-/// The first number from one on whose name isn't taken.
+/// The first number from one on whose name neither stays in a group nor was given there.
 #[tactic(auto, using(crate::proofs::Free::first_free, crate::proofs::Free::more_taken))]
-pub(crate) fn next_free(alloc: Global, front: &Text, taken: &TakenSet, from: u32) -> M<u32>
-    ensures { IfOk result (λ number. number ≡ next_free front.now taken.now from) }
+pub(crate) fn next_free(
+    alloc: Global,
+    stays: &Stays,
+    news: &KeySet<(Name, Text)>,
+    group: &Text,
+    from: u32,
+) -> M<u32>
+    ensures { IfOk result (λ number. number ≡ next_free (front_in stays.now group.now)
+        (stays_in stays.now group.now ++ of_type group.now news.now) from) }
 {
     let mut number = from;
     for _ in 0..u32::MAX {
-        if !is_taken(alloc, front, taken, number)? {
+        if !is_skipped(alloc, stays, news, group, number)? {
             return Ok(number);
         }
         number = number_after(number)?;

@@ -1,13 +1,15 @@
 // What holds of new names.
-ghost use Rattle.fresh_names.specs.Given.{front_of, no_front};
-ghost use Rattle.fresh_names.specs.Laws.{FrontsStay, NamesDiffer, TakenStay};
+ghost use Rattle.fresh_names.specs.Laws.{ClassesDiffer, ClassesStay, FieldsDiffer, FieldsStay, MethodsDiffer};
+ghost use Rattle.fresh_names.specs.Laws.{MethodsStay, PackagesStay};
 
-/// No two names that stay or get a new one come to one, and a name that is taken stays: of classes, where one front of
-/// names is given after the other, and of members. A class stays in its package.
+/// No two names that stay or get a new one come to one: of classes, of fields, and of methods of one descriptor. A name
+/// that stays is its own new one, and a class stays in its package. So it is whatever an earlier mapping gives.
 pub fn given_names_differ()
-    ensures members { NamesDiffer no_front }
-    ensures classes { NamesDiffer front_of }
-    ensures packages { FrontsStay }
-    ensures classes_stay { TakenStay front_of }
-    ensures members_stay { TakenStay no_front }
+    ensures classes { ClassesDiffer }
+    ensures fields { FieldsDiffer }
+    ensures methods { MethodsDiffer }
+    ensures packages { PackagesStay }
+    ensures classes_stay { ClassesStay }
+    ensures fields_stay { FieldsStay }
+    ensures methods_stay { MethodsStay }
 {}

@@ -4,9 +4,12 @@
 mod fresh;
 mod front;
 mod giving;
+mod grouped;
 mod laws;
+mod naming;
+mod stays;
 mod taken;
 
-pub use giving::new_names;
 pub use laws::given_names_differ;
-pub use taken::{Named, TakenNames, TakenSet};
+pub use naming::new_names;
+pub use taken::{Named, TakenMethods, TakenNames, TakenSet};

@@ -2,9 +2,10 @@
 ghost use Rattle.std.specs.Prelude.{◌≡◌, ◌++◌, ◌∷◌, [], codes};
 ghost use Rattle.lib_table.specs.Lookups.{is_named};
 ghost use Rattle.fresh_names.specs.Fresh.{is_taken};
+ghost use Rattle.fresh_names.specs.Given.{stays_for};
 ghost use Rattle.fresh_names.specs.Reserved.{library_names, reserved, type_words};
 
-use jv_base::Name;
+use jv_base::{Name, Text};
 use key_table::KeySet;
 use lib_table::lib_named;
 use std::marker::Model;
@@ -17,7 +18,7 @@ pub enum Named {
     Method,
 }
 
-/// Names of classes, of fields or of methods that stay, with those that none of these can get in any case.
+/// Names of classes or of fields that stay, with those that none of these can get in any case.
 #[derive(Drop)]
 pub struct TakenSet {
     names: KeySet<Name>,
@@ -89,10 +90,45 @@ fn is_of_library(name: &Name, method: bool) -> bool
     lib_named(name, method)
 }
 
+/// Methods whose names stay, by their names and descriptors. `<init>`, `<clinit>` and the names of the library's methods
+/// stay for each descriptor.
+#[derive(Drop)]
+pub struct TakenMethods {
+    methods: KeySet<(Name, Text)>,
+}
+
+impl Model for TakenMethods {
+    ghost use Rattle.std.specs.Prelude.{List};
+    ghost use Rattle.class_rename.specs.Names.{MethodName};
+
+    ghost Value = { List MethodName };
+
+    ghost view = { λ t. t.methods };
+}
+
+impl TakenMethods {
+    /// These methods.
+    pub fn new(methods: KeySet<(Name, Text)>) -> Self
+        ensures { result ≡ methods }
+    {
+        TakenMethods { methods }
+    }
+
+    /// Whether the name of a method stays, or is reserved. It takes no memory, and the logarithm of how many there are.
+    #[tactic(auto, using(crate::proofs::Groups::stays_by_parts))]
+    pub fn has(&self, method: &(Name, Text)) -> bool
+        ensures { result ≡ is_taken (stays_for self.now method.now.1) method.now.0 }
+    {
+        let is_fixed = self.methods.has(method);
+        let is_reserved = is_reserved(Named::Method, &method.0);
+        is_fixed || is_reserved
+    }
+}
+
 /// Names that stay, and that nothing else gets: of classes, of fields and of methods.
 #[derive(Drop)]
 pub struct TakenNames {
     pub classes: TakenSet,
     pub fields: TakenSet,
-    pub methods: TakenSet,
+    pub methods: TakenMethods,
 }

@@ -12,5 +12,6 @@ pub mod PlaceLaw
 pub mod LiteralLaw
 pub mod MarkLaw
 pub mod NameLaw
+mod TableLaw
 pub mod AskedLaw
 mod FixedLaw

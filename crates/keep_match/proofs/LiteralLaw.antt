@@ -14,7 +14,7 @@ use Rattle.jv_base.proofs.Swapping.{swapped_char}
 use Rattle.keep_match.specs.declared.piece.Piece.{Piece}
 use Rattle.keep_match.specs.declared.piece.Piece.TheVariants.{Any, Character, One, Part}
 use Rattle.keep_match.specs.bodies.Marks.{is_wildcard}
-use Rattle.keep_match.specs.Wildcards.{is_cut, piece_of, pieces, dotted_chars, wild_class}
+use Rattle.keep_match.specs.Wildcards.{is_cut, piece_of, pieces, dotted_chars, wild, wild_class}
 
 -- ---- pieces
 
@@ -77,6 +77,15 @@ literal_matches pattern name plain u v e =
     chars_from_encodes (dotted_chars 47 name) pattern u (shown_name name v ∙ e) in
     ap (λ (ps : List Piece). is_cut ps (dotted_chars 47 name)) (plain_pieces (chars pattern) plain)
     ∙ ap (is_cut (map Character (chars pattern))) same ∙ cut_whole (chars pattern)
+
+-- a name is matched by the pattern that it is itself alone
+pub same_name : (pattern name : List ℕ) → list_any is_wildcard (chars pattern) ≡ false → IsUtf8 pattern → IsUtf8 name
+    → wild pattern name ≡ true → pattern ≡ name
+unfolding wild
+same_name pattern name plain u v h =
+    let cut : is_cut (map Character (chars pattern)) (chars name) ≡ true =
+    ap (λ (ps : List Piece). is_cut ps (chars name)) (sym (plain_pieces (chars pattern) plain)) ∙ h in
+    sym (encodes-chars pattern u) ∙ sym (ap encodes (cut_is (chars pattern) (chars name) cut)) ∙ encodes-chars name v
 
 -- ---- bytes
 

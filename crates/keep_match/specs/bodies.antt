@@ -3,4 +3,5 @@ pub mod AsKeeps
 pub mod AsFixing
 pub mod Above
 pub mod Marks
+pub mod Tables
 pub mod Scan

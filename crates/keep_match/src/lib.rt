@@ -9,6 +9,7 @@ mod filter;
 mod fixed;
 mod flag_word;
 mod member_spec;
+mod member_table;
 mod named;
 mod piece;
 mod rows;

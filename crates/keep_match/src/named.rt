@@ -64,7 +64,7 @@ fn is_literal(filter: &Filter) -> bool
 }
 
 /// In UTF-8 the bytes of these characters stand in no other one.
-fn has_wildcard(pattern: &[u8]) -> bool
+pub(crate) fn has_wildcard(pattern: &[u8]) -> bool
     ensures { result ≡ list_any is_wildcard pattern.now }
 {
     pattern.iter().any(|byte| *byte == b'*' || *byte == b'?')

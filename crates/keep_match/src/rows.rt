@@ -1,25 +1,33 @@
 // The marks of a class and its members.
 ghost use Rattle.std.specs.Prelude.{◌≡◌, ◌+◌, ◌<◌, ◌∷◌, Some, length, slice_get, slice_set, true};
 ghost use Rattle.std.specs.Prelude.{if◌then◌else◌};
-ghost use Rattle.std.specs.List.{list_all, list_any};
+ghost use Rattle.std.specs.List.{list_all};
 ghost use Rattle.class_pool.specs.Count.{items_of};
 ghost use Rattle.keep_match.specs.bodies.Marks.{members_kept, or_each};
-ghost use Rattle.keep_match.specs.Matches.{matches_field, matches_method, members_matched};
+ghost use Rattle.keep_match.specs.Matches.{members_matched};
+ghost use Rattle.keep_match.specs.bodies.Tables.{IsTable};
 ghost use Rattle.keep_match.specs.Seeds.{are_members_met, has_match};
 
-use crate::member_spec::{matches_field, matches_member, matches_method};
-use class_model::{Class, Field, Method};
+use crate::member_spec::matches_member;
+use crate::member_table::{MemberTable, is_field_kept, is_method_kept};
+use class_model::Class;
 use keep_rules::{KeepKind, MemberSpec};
 
 /// Marks a class, and each member that one of the specifications matches.
-pub(crate) fn mark_row(specs: &[MemberSpec], class: &Class, row: &mut Vec<bool>)
+pub(crate) fn mark_row(
+    table: &MemberTable,
+    specs: &[MemberSpec],
+    class: &Class,
+    row: &mut Vec<bool>,
+)
+    requires table { IsTable specs.now table.now }
     requires few { length class.now.fields + length class.now.methods < 4294967295 }
     requires width { length row.old.items ≡ items_of class.now }
     ensures { row.new.items ≡ or_each row.old.items (true ∷ members_kept specs.now class.now) }
 {
     row[0] = true;
     for member in 0..class.fields.len() + class.methods.len() {
-        let is_kept = is_member_kept(specs, class, member);
+        let is_kept = is_member_kept(table, specs, class, member);
         mark_member(row, member, is_kept);
     }
 }
@@ -34,28 +42,17 @@ fn mark_member(row: &mut Vec<bool>, member: usize, is_kept: bool)
 }
 
 /// Whether one of the specifications matches the member of a number.
-fn is_member_kept(specs: &[MemberSpec], class: &Class, member: usize) -> bool
-    requires { member < length class.now.fields + length class.now.methods }
+fn is_member_kept(table: &MemberTable, specs: &[MemberSpec], class: &Class, member: usize) -> bool
+    requires table { IsTable specs.now table.now }
+    requires member { member < length class.now.fields + length class.now.methods }
     ensures { slice_get (members_kept specs.now class.now) member ≡ Some result }
 {
     let fields = class.fields.len();
     if member < fields {
-        is_field_kept(specs, &class.fields[member])
+        is_field_kept(table, specs, &class.fields[member])
     } else {
-        is_method_kept(specs, &class.methods[member - fields])
+        is_method_kept(table, specs, &class.methods[member - fields])
     }
-}
-
-fn is_field_kept(specs: &[MemberSpec], field: &Field) -> bool
-    ensures { result ≡ list_any (λ spec. matches_field spec field.now) specs.now }
-{
-    specs.iter().any(|spec| matches_field(spec, field))
-}
-
-fn is_method_kept(specs: &[MemberSpec], method: &Method) -> bool
-    ensures { result ≡ list_any (λ spec. matches_method spec method.now) specs.now }
-{
-    specs.iter().any(|spec| matches_method(spec, method))
 }
 
 /// Whether a class has the members that a rule of this kind asks for.

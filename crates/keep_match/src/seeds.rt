@@ -9,12 +9,14 @@ ghost use Rattle.keep_match.specs.bodies.Above.{AreKnown};
 ghost use Rattle.keep_match.specs.Filters.{accepts};
 ghost use Rattle.keep_match.specs.bodies.Marks.{AreAdded, AreLiteral, AreMarked, AreNames, AreRows, HasRows, IsNamed};
 ghost use Rattle.keep_match.specs.bodies.Marks.{IsPut, members_kept, or_each};
+ghost use Rattle.keep_match.specs.bodies.Tables.{IsTable};
 ghost use Rattle.keep_match.specs.Matches.{matches_but_name, matches_class_name};
 ghost use Rattle.keep_match.specs.Seeds.{are_members_met, keeps_classes, places_of_true, seeds_of};
 
 use crate::above::known_above;
 use crate::class_spec::matches_but_name;
 use crate::filter::accepts_class;
+use crate::member_table::{MemberTable, member_table};
 use crate::named::{are_literal, names_of, number_of};
 use crate::rows::{are_members_met, mark_row};
 use class_model::Class;
@@ -114,7 +116,8 @@ fn mark_rows(
         return Ok(());
     }
     let above = known_above(alloc, &keep.spec, set)?;
-    mark_kept(alloc, keep, set, above.as_slice(), names, rows);
+    let table = member_table(alloc, &keep.spec.members)?;
+    mark_kept(alloc, keep, set, above.as_slice(), &table, names, rows);
     Ok(())
 }
 
@@ -124,10 +127,12 @@ fn mark_kept(
     keep: &Keep,
     set: &ClassSet,
     above: &[Option<bool>],
+    table: &MemberTable,
     names: &Option<KeySet<Text>>,
     rows: &mut Vec<Items<bool>>,
 )
     requires above { AreKnown keep.now.spec.above set.now above.now }
+    requires table { IsTable keep.now.spec.members table.now }
     requires rows { AreRows set.now rows.old.items }
     requires names { IfSome names.now (λ known. AreNames set.now (length set.now) known) }
     requires keeps { keeps_classes keep.now ≡ true }
@@ -135,9 +140,9 @@ fn mark_kept(
 {
     match names {
         Some(names) if are_literal(keep.spec.names.as_slice()) => {
-            mark_named(alloc, keep, set, above, names, rows)
+            mark_named(alloc, keep, set, above, table, names, rows)
         }
-        _ => mark_each(alloc, keep, set, above, rows),
+        _ => mark_each(alloc, keep, set, above, table, rows),
     }
 }
 
@@ -147,10 +152,12 @@ fn mark_named(
     keep: &Keep,
     set: &ClassSet,
     above: &[Option<bool>],
+    table: &MemberTable,
     names: &KeySet<Text>,
     rows: &mut Vec<Items<bool>>,
 )
     requires above { AreKnown keep.now.spec.above set.now above.now }
+    requires table { IsTable keep.now.spec.members table.now }
     requires rows { AreRows set.now rows.old.items }
     requires keeps { keeps_classes keep.now ≡ true }
     requires literal { AreLiteral (length keep.now.spec.names) keep.now.spec.names }
@@ -158,7 +165,7 @@ fn mark_named(
     ensures { AreMarked set.now keep.now rows.old.items rows.new.items }
 {
     for filter in keep.spec.names.as_slice() {
-        mark_pattern(alloc, keep, set, above, names, &filter.pattern, rows);
+        mark_pattern(alloc, keep, set, above, table, names, &filter.pattern, rows);
     }
 }
 
@@ -168,11 +175,13 @@ fn mark_pattern(
     keep: &Keep,
     set: &ClassSet,
     above: &[Option<bool>],
+    table: &MemberTable,
     names: &KeySet<Text>,
     pattern: &Text,
     rows: &mut Vec<Items<bool>>,
 )
     requires above { AreKnown keep.now.spec.above set.now above.now }
+    requires table { IsTable keep.now.spec.members table.now }
     requires rows { AreRows set.now rows.old.items }
     requires keeps { keeps_classes keep.now ≡ true }
     requires names { AreNames set.now (length set.now) names.now }
@@ -183,7 +192,7 @@ fn mark_pattern(
     let Some(number) = number_of(names, set, pattern) else {
         return;
     };
-    mark_class(alloc, keep, set, above, number, rows);
+    mark_class(alloc, keep, set, above, table, number, rows);
 }
 
 /// Marks what a rule keeps of all classes.
@@ -192,15 +201,17 @@ fn mark_each(
     keep: &Keep,
     set: &ClassSet,
     above: &[Option<bool>],
+    table: &MemberTable,
     rows: &mut Vec<Items<bool>>,
 )
     requires above { AreKnown keep.now.spec.above set.now above.now }
+    requires table { IsTable keep.now.spec.members table.now }
     requires rows { AreRows set.now rows.old.items }
     requires keeps { keeps_classes keep.now ≡ true }
     ensures { AreMarked set.now keep.now rows.old.items rows.new.items }
 {
     for number in 0..set.len() {
-        mark_number(alloc, keep, set, above, number, rows);
+        mark_number(alloc, keep, set, above, table, number, rows);
     }
 }
 
@@ -210,11 +221,13 @@ fn mark_number(
     keep: &Keep,
     set: &ClassSet,
     above: &[Option<bool>],
+    table: &MemberTable,
     number: u32,
     rows: &mut Vec<Items<bool>>,
 )
     requires there { number < length set.now }
     requires above { AreKnown keep.now.spec.above set.now above.now }
+    requires table { IsTable keep.now.spec.members table.now }
     requires rows { AreRows set.now rows.old.items }
     requires keeps { keeps_classes keep.now ≡ true }
     ensures { AreAdded set.now keep.now rows.old.items rows.new.items (λ n. n ≡ number) }
@@ -223,7 +236,7 @@ fn mark_number(
     if !accepts_class(keep.spec.names.as_slice(), name) {
         return;
     }
-    mark_class(alloc, keep, set, above, number, rows);
+    mark_class(alloc, keep, set, above, table, number, rows);
 }
 
 /// Marks what a rule keeps of a class whose name it matches.
@@ -232,11 +245,13 @@ fn mark_class(
     keep: &Keep,
     set: &ClassSet,
     above: &[Option<bool>],
+    table: &MemberTable,
     number: u32,
     rows: &mut Vec<Items<bool>>,
 )
     requires there { number < length set.now }
     requires above { AreKnown keep.now.spec.above set.now above.now }
+    requires table { IsTable keep.now.spec.members table.now }
     requires rows { AreRows set.now rows.old.items }
     requires keeps { keeps_classes keep.now ≡ true }
     requires named { (c : Class) → slice_get set.now number ≡ Some c
@@ -248,7 +263,7 @@ fn mark_class(
         return;
     }
     let members = keep.spec.members.as_slice();
-    mark_items(alloc, members, class, &mut rows[number as usize]);
+    mark_items(alloc, table, members, class, &mut rows[number as usize]);
 }
 
 /// Whether a rule keeps a class whose name it matches.
@@ -264,13 +279,20 @@ fn is_kept(keep: &Keep, set: &ClassSet, above: &[Option<bool>], number: u32, cla
 }
 
 /// Marks a class, and each member that one of the specifications matches. No memory is taken.
-fn mark_items(alloc: Global, specs: &[MemberSpec], class: &Class, row: &mut Items<bool>)
+fn mark_items(
+    alloc: Global,
+    table: &MemberTable,
+    specs: &[MemberSpec],
+    class: &Class,
+    row: &mut Items<bool>,
+)
+    requires table { IsTable specs.now table.now }
     requires few { length class.now.fields + length class.now.methods < 4294967295 }
     requires width { length row.old ≡ items_of class.now }
     ensures { row.new ≡ or_each row.old (true ∷ members_kept specs.now class.now) }
 {
     let mut marks = replace(row, Items::new(alloc)).into_vec();
-    mark_row(specs, class, &mut marks);
+    mark_row(table, specs, class, &mut marks);
     *row = Items::from_vec(marks);
 }
 

@@ -20,9 +20,9 @@ use Rattle.keep_rules.specs.Reader.{fault, none_left}
 use Rattle.keep_rules.specs.Reading.{Section, Sections, word_before, sections_of, options_read, option_read, blank}
 use Rattle.keep_rules.specs.Paths.{paths_meet}
 use Rattle.keep_rules.specs.Reading.{needed, whole_rules, rules_of, apart, finished, rules_read}
-use Rattle.keep_rules.specs.Grammar.{in_order, Saying, in_dir, out_dir, mapping, seeds, usage, source_name, no_shrink}
+use Rattle.keep_rules.specs.Grammar.{in_order, Saying, in_dir, out_dir, mapping, seeds, usage, apply, source_name, no_shrink}
 use Rattle.keep_rules.specs.Grammar.{no_optimise, no_obfuscate, keeps, nothing, Says, IsSection, in_dirs, out_dirs}
-use Rattle.keep_rules.specs.Grammar.{mappings, seed_files, usage_files, source_names, filters_of, keeps_of}
+use Rattle.keep_rules.specs.Grammar.{mappings, seed_files, usage_files, apply_files, source_names, filters_of, keeps_of}
 use Rattle.keep_rules.specs.Grammar.{stops_shrinking, stops_optimising, stops_obfuscating, IsConfig}
 use Rattle.keep_rules.specs.Grammar as says
 use Rattle.keep_rules.specs.Laws.{text_of}
@@ -178,6 +178,7 @@ record Comes (d : Draft) (ys : List Saying) (e : Draft) : Type 0 where
   pub mapping : option_to_list d.mapping ++ filter_map mappings ys ≡ option_to_list e.mapping
   pub seeds : option_to_list d.seeds ++ filter_map seed_files ys ≡ option_to_list e.seeds
   pub usage : option_to_list d.usage ++ filter_map usage_files ys ≡ option_to_list e.usage
+  pub apply : option_to_list d.apply ++ filter_map apply_files ys ≡ option_to_list e.apply
   pub source : option_to_list d.source_name ++ filter_map source_names ys ≡ option_to_list e.source_name
   pub shrink : e.shrink ≡ (d.shrink && not (list_any stops_shrinking ys))
   pub optimise : e.optimise ≡ (d.optimise && not (list_any stops_optimising ys))
@@ -192,6 +193,7 @@ comes_none d e h = subst (Comes d []) h (record {
   mapping = append-nil (option_to_list d.mapping);
   seeds = append-nil (option_to_list d.seeds);
   usage = append-nil (option_to_list d.usage);
+  apply = append-nil (option_to_list d.apply);
   source = append-nil (option_to_list d.source_name);
   shrink = sym (and-true d.shrink);
   optimise = sym (and-true d.optimise);
@@ -220,6 +222,7 @@ more_in_dir d e x ys f c = record {
   mapping = c.mapping;
   seeds = c.seeds;
   usage = c.usage;
+  apply = c.apply;
   source = c.source;
   shrink = c.shrink;
   optimise = c.optimise;
@@ -237,6 +240,7 @@ more_out_dir d e x ys f c = record {
   mapping = c.mapping;
   seeds = c.seeds;
   usage = c.usage;
+  apply = c.apply;
   source = c.source;
   shrink = c.shrink;
   optimise = c.optimise;
@@ -254,6 +258,7 @@ more_mapping d e x ys f c = record {
   mapping = in_front d.mapping x _ _ f c.mapping;
   seeds = c.seeds;
   usage = c.usage;
+  apply = c.apply;
   source = c.source;
   shrink = c.shrink;
   optimise = c.optimise;
@@ -270,6 +275,7 @@ more_seeds d e x ys f c = record {
   mapping = c.mapping;
   seeds = in_front d.seeds x _ _ f c.seeds;
   usage = c.usage;
+  apply = c.apply;
   source = c.source;
   shrink = c.shrink;
   optimise = c.optimise;
@@ -286,6 +292,24 @@ more_usage d e x ys f c = record {
   mapping = c.mapping;
   seeds = c.seeds;
   usage = in_front d.usage x _ _ f c.usage;
+  apply = c.apply;
+  source = c.source;
+  shrink = c.shrink;
+  optimise = c.optimise;
+  obfuscate = c.obfuscate;
+  attrs = c.attrs;
+  keeps = c.keeps;
+}
+
+more_apply : (d e : Draft) (x : List ℕ) (ys : List Saying) → d.apply ≡ None → Comes (record d { apply = Some x }) ys e
+    → Comes d (apply x ∷ ys) e
+more_apply d e x ys f c = record {
+  in_dir = c.in_dir;
+  out_dir = c.out_dir;
+  mapping = c.mapping;
+  seeds = c.seeds;
+  usage = c.usage;
+  apply = in_front d.apply x _ _ f c.apply;
   source = c.source;
   shrink = c.shrink;
   optimise = c.optimise;
@@ -303,6 +327,7 @@ more_source_name d e x ys f c = record {
   mapping = c.mapping;
   seeds = c.seeds;
   usage = c.usage;
+  apply = c.apply;
   source = in_front d.source_name x _ _ f c.source;
   shrink = c.shrink;
   optimise = c.optimise;
@@ -319,6 +344,7 @@ more_no_shrink d e ys c = record {
   mapping = c.mapping;
   seeds = c.seeds;
   usage = c.usage;
+  apply = c.apply;
   source = c.source;
   shrink = c.shrink ∙ sym (and-false d.shrink);
   optimise = c.optimise;
@@ -335,6 +361,7 @@ more_no_optimise d e ys c = record {
   mapping = c.mapping;
   seeds = c.seeds;
   usage = c.usage;
+  apply = c.apply;
   source = c.source;
   shrink = c.shrink;
   optimise = c.optimise ∙ sym (and-false d.optimise);
@@ -351,6 +378,7 @@ more_no_obfuscate d e ys c = record {
   mapping = c.mapping;
   seeds = c.seeds;
   usage = c.usage;
+  apply = c.apply;
   source = c.source;
   shrink = c.shrink;
   optimise = c.optimise;
@@ -367,6 +395,7 @@ more_attributes d e fs ys c = record {
   mapping = c.mapping;
   seeds = c.seeds;
   usage = c.usage;
+  apply = c.apply;
   source = c.source;
   shrink = c.shrink;
   optimise = c.optimise;
@@ -383,6 +412,7 @@ more_keeps d e k ys c = record {
   mapping = c.mapping;
   seeds = c.seeds;
   usage = c.usage;
+  apply = c.apply;
   source = c.source;
   shrink = c.shrink;
   optimise = c.optimise;
@@ -398,6 +428,7 @@ more_nothing d e ys c = record {
   mapping = c.mapping;
   seeds = c.seeds;
   usage = c.usage;
+  apply = c.apply;
   source = c.source;
   shrink = c.shrink;
   optimise = c.optimise;
@@ -426,6 +457,9 @@ comes_more d e1 e (seeds x) ys h c =
 comes_more d e1 e (usage x) ys h c =
     let f = free_by d.usage (record d { usage = Some x }) e1 h in
     more_usage d e x ys f.0 (subst (λ (z : Draft). Comes z ys e) (sym f.1) c)
+comes_more d e1 e (apply x) ys h c =
+    let f = free_by d.apply (record d { apply = Some x }) e1 h in
+    more_apply d e x ys f.0 (subst (λ (z : Draft). Comes z ys e) (sym f.1) c)
 comes_more d e1 e (source_name x) ys h c =
     let f = free_by d.source_name (record d { source_name = Some x }) e1 h in
     more_source_name d e x ys f.0 (subst (λ (z : Draft). Comes z ys e) (sym f.1) c)
@@ -474,6 +508,7 @@ draft_same d e c =
     let p2 = slot_same d.mapping e.mapping c.mapping in
     let p3 = slot_same d.seeds e.seeds c.seeds in
     let p4 = slot_same d.usage e.usage c.usage in
+    let p11 = slot_same d.apply e.apply c.apply in
     let p5 = slot_same d.source_name e.source_name c.source in
     let p6 : d.shrink ≡ e.shrink = sym (c.shrink ∙ and-true d.shrink) in
     let p7 : d.optimise ≡ e.optimise = sym (c.optimise ∙ and-true d.optimise) in
@@ -486,6 +521,7 @@ draft_same d e c =
       mapping = p2 i;
       seeds = p3 i;
       usage = p4 i;
+      apply = p11 i;
       source_name = p5 i;
       shrink = p6 i;
       optimise = p7 i;
@@ -512,6 +548,7 @@ next_in_dir d e x ys c =
         mapping = c.mapping;
         seeds = c.seeds;
         usage = c.usage;
+        apply = c.apply;
         source = c.source;
         shrink = c.shrink;
         optimise = c.optimise;
@@ -533,6 +570,7 @@ next_out_dir d e x ys c =
         mapping = c.mapping;
         seeds = c.seeds;
         usage = c.usage;
+        apply = c.apply;
         source = c.source;
         shrink = c.shrink;
         optimise = c.optimise;
@@ -554,6 +592,7 @@ next_mapping d e x ys c =
         mapping = f.1;
         seeds = c.seeds;
         usage = c.usage;
+        apply = c.apply;
         source = c.source;
         shrink = c.shrink;
         optimise = c.optimise;
@@ -575,6 +614,7 @@ next_seeds d e x ys c =
         mapping = c.mapping;
         seeds = f.1;
         usage = c.usage;
+        apply = c.apply;
         source = c.source;
         shrink = c.shrink;
         optimise = c.optimise;
@@ -596,6 +636,29 @@ next_usage d e x ys c =
         mapping = c.mapping;
         seeds = c.seeds;
         usage = f.1;
+        apply = c.apply;
+        source = c.source;
+        shrink = c.shrink;
+        optimise = c.optimise;
+        obfuscate = c.obfuscate;
+        attrs = c.attrs;
+        keeps = c.keeps;
+      };
+    }
+
+next_apply : (d e : Draft) (x : List ℕ) (ys : List Saying) → Comes d (apply x ∷ ys) e → Next d (apply x) ys e
+next_apply d e x ys c =
+    let f = slot_free d.apply x _ e.apply c.apply in
+    record {
+      next = record d { apply = Some x };
+      adds = takes_slot d.apply (record d { apply = Some x }) f.0;
+      comes = record {
+        in_dir = c.in_dir;
+        out_dir = c.out_dir;
+        mapping = c.mapping;
+        seeds = c.seeds;
+        usage = c.usage;
+        apply = f.1;
         source = c.source;
         shrink = c.shrink;
         optimise = c.optimise;
@@ -618,6 +681,7 @@ next_source_name d e x ys c =
         mapping = c.mapping;
         seeds = c.seeds;
         usage = c.usage;
+        apply = c.apply;
         source = f.1;
         shrink = c.shrink;
         optimise = c.optimise;
@@ -637,6 +701,7 @@ next_no_shrink d e ys c = record {
     mapping = c.mapping;
     seeds = c.seeds;
     usage = c.usage;
+    apply = c.apply;
     source = c.source;
     shrink = c.shrink ∙ and-false d.shrink;
     optimise = c.optimise;
@@ -656,6 +721,7 @@ next_no_optimise d e ys c = record {
     mapping = c.mapping;
     seeds = c.seeds;
     usage = c.usage;
+    apply = c.apply;
     source = c.source;
     shrink = c.shrink;
     optimise = c.optimise ∙ and-false d.optimise;
@@ -675,6 +741,7 @@ next_no_obfuscate d e ys c = record {
     mapping = c.mapping;
     seeds = c.seeds;
     usage = c.usage;
+    apply = c.apply;
     source = c.source;
     shrink = c.shrink;
     optimise = c.optimise;
@@ -695,6 +762,7 @@ next_attributes d e fs ys c = record {
     mapping = c.mapping;
     seeds = c.seeds;
     usage = c.usage;
+    apply = c.apply;
     source = c.source;
     shrink = c.shrink;
     optimise = c.optimise;
@@ -714,6 +782,7 @@ next_keeps d e k ys c = record {
     mapping = c.mapping;
     seeds = c.seeds;
     usage = c.usage;
+    apply = c.apply;
     source = c.source;
     shrink = c.shrink;
     optimise = c.optimise;
@@ -733,6 +802,7 @@ next_nothing d e ys c = record {
     mapping = c.mapping;
     seeds = c.seeds;
     usage = c.usage;
+    apply = c.apply;
     source = c.source;
     shrink = c.shrink;
     optimise = c.optimise;
@@ -748,6 +818,7 @@ next_is d e (out_dir x) ys c = next_out_dir d e x ys c
 next_is d e (mapping x) ys c = next_mapping d e x ys c
 next_is d e (seeds x) ys c = next_seeds d e x ys c
 next_is d e (usage x) ys c = next_usage d e x ys c
+next_is d e (apply x) ys c = next_apply d e x ys c
 next_is d e (source_name x) ys c = next_source_name d e x ys c
 next_is d e no_shrink ys c = next_no_shrink d e ys c
 next_is d e no_optimise ys c = next_no_optimise d e ys c
@@ -853,6 +924,7 @@ found words witness rules h =
       one_mapping = c.mapping ∙ ap option_to_list r.maps;
       one_seeds = c.seeds ∙ ap (λ (z : Rules). option_to_list z.seeds) r.are;
       one_usage = c.usage ∙ ap (λ (z : Rules). option_to_list z.usage) r.are;
+      one_apply = c.apply ∙ ap (λ (z : Rules). option_to_list z.apply) r.are;
       one_source = c.source ∙ ap (λ (z : Rules). option_to_list z.source_name) r.are;
       shrinks = sym (ap (λ (z : Rules). z.shrink) r.are) ∙ c.shrink;
       optimises = sym (ap (λ (z : Rules). z.optimise) r.are) ∙ c.optimise;
@@ -870,6 +942,7 @@ draft_of rules = record {
   mapping = Some rules.mapping;
   seeds = rules.seeds;
   usage = rules.usage;
+  apply = rules.apply;
   source_name = rules.source_name;
   shrink = rules.shrink;
   optimise = rules.optimise;
@@ -909,6 +982,7 @@ only words witness rules h =
       mapping = h.one_mapping;
       seeds = h.one_seeds;
       usage = h.one_usage;
+      apply = h.one_apply;
       source = h.one_source;
       shrink = h.shrinks;
       optimise = h.optimises;

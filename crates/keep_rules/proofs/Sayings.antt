@@ -30,7 +30,7 @@ use Rattle.keep_rules.specs.Filtering.{filter_in}
 use Rattle.keep_rules.specs.Specifications.{keep}
 use Rattle.keep_rules.specs.Reading.{value_in, valued, value_meant, every, attributes, once, left_off, without}
 use Rattle.keep_rules.specs.Reading.{with_attributes, with_keep, set, set_known, option_read}
-use Rattle.keep_rules.specs.Grammar.{joined, AreFilters, IsKeep, Saying, in_dir, out_dir, mapping, seeds, usage}
+use Rattle.keep_rules.specs.Grammar.{joined, AreFilters, IsKeep, Saying, in_dir, out_dir, mapping, seeds, usage, apply}
 use Rattle.keep_rules.specs.Grammar.{source_name, no_shrink, no_optimise, no_obfuscate, keeps, nothing, Says, SaysKeep}
 use Rattle.keep_rules.specs.Grammar.{IsKeepOption, IsAttributes}
 use Rattle.keep_rules.specs.Grammar as says
@@ -157,6 +157,7 @@ Known w setting.OutDir = w ≡ codes "-outjars"
 Known w setting.Mapping = w ≡ codes "-printmapping"
 Known w setting.Seeds = w ≡ codes "-printseeds"
 Known w setting.Usage = w ≡ codes "-printusage"
+Known w setting.Apply = w ≡ codes "-applymapping"
 Known w setting.SourceName = w ≡ codes "-renamesourcefileattribute"
 Known w (setting.Off Shrink) = w ≡ codes "-dontshrink"
 Known w (setting.Off Optimise) = w ≡ codes "-dontoptimize"
@@ -187,11 +188,12 @@ known_plain w t h =
     (test (Known w) _ setting.Mapping t _ (same_text w (codes "-printmapping"))
     (test (Known w) _ setting.Seeds t _ (same_text w (codes "-printseeds"))
     (test (Known w) _ setting.Usage t _ (same_text w (codes "-printusage"))
+    (test (Known w) _ setting.Apply t _ (same_text w (codes "-applymapping"))
     (test (Known w) _ setting.SourceName t _ (same_text w (codes "-renamesourcefileattribute"))
     (test (Known w) _ (setting.Off Shrink) t _ (same_text w (codes "-dontshrink"))
     (test (Known w) _ (setting.Off Optimise) t _ (same_text w (codes "-dontoptimize"))
     (test (Known w) _ (setting.Off Obfuscate) t _ (same_text w (codes "-dontobfuscate"))
-    (test (Known w) _ setting.Attributes t _ (same_text w (codes "-keepattributes")) (known_inert w t)))))))))) h
+    (test (Known w) _ setting.Attributes t _ (same_text w (codes "-keepattributes")) (known_inert w t))))))))))) h
 
 known_keep : (w : List ℕ) (t : Setting) → keep_setting w ≡ Some t → Known w t
 unfolding keep_setting
@@ -225,6 +227,7 @@ added d (out_dir x) = slotted d.out_dir (record d { out_dir = Some x })
 added d (mapping x) = slotted d.mapping (record d { mapping = Some x })
 added d (seeds x) = slotted d.seeds (record d { seeds = Some x })
 added d (usage x) = slotted d.usage (record d { usage = Some x })
+added d (apply x) = slotted d.apply (record d { apply = Some x })
 added d (source_name x) = slotted d.source_name (record d { source_name = Some x })
 added d no_shrink = Some (left_off Shrink d)
 added d no_optimise = Some (left_off Optimise d)
@@ -346,6 +349,14 @@ found_by setting.Usage d option values e n h =
       says = (value_words option values _ o.0 n (o.1.1 ∙ ap (λ (w : List ℕ). w ∷ []) f.0), f.1);
       adds = o.2;
     }
+found_by setting.Apply d option values e n h =
+    let o = slot_found File d.apply (λ v. record d { apply = Some v }) option values e h in
+    let f = file_is o.1.0 o.0 o.1.2 in
+    record {
+      saying = apply o.0;
+      says = (value_words option values _ o.0 n (o.1.1 ∙ ap (λ (w : List ℕ). w ∷ []) f.0), f.1);
+      adds = o.2;
+    }
 found_by setting.SourceName d option values e n h =
     let o = slot_found AnyWord d.source_name (λ v. record d { source_name = Some v }) option values e h in
     let same : o.1.0 ≡ o.0 = cc in
@@ -454,6 +465,10 @@ printseeds = refl
 printusage : setting_of (codes "-printusage") ≡ Some setting.Usage
 unfolding setting_of keep_setting plain_setting
 printusage = refl
+
+applymapping : setting_of (codes "-applymapping") ≡ Some setting.Apply
+unfolding setting_of keep_setting plain_setting
+applymapping = refl
 
 rename : setting_of (codes "-renamesourcefileattribute") ≡ Some setting.SourceName
 unfolding setting_of keep_setting plain_setting
@@ -615,6 +630,9 @@ option_only d option values e (seeds x) h a =
 option_only d option values e (usage x) h a =
     slot_said setting.Usage _ File d.usage (λ v. record d { usage = Some v }) d
     option values e x x printusage refl h.0 (a_file x h.1) a
+option_only d option values e (apply x) h a =
+    slot_said setting.Apply _ File d.apply (λ v. record d { apply = Some v }) d
+    option values e x x applymapping refl h.0 (a_file x h.1) a
 option_only d option values e (source_name x) h a = slot_said setting.SourceName _ AnyWord d.source_name
     (λ v. record d { source_name = Some v }) d option values e x x rename refl h refl a
 option_only d option values e no_shrink h a = off_only Shrink _ d option values e dontshrink h a

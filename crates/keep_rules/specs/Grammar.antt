@@ -189,6 +189,7 @@ pub data Saying : Type 0 where
   mapping : List ℕ → Saying
   seeds : List ℕ → Saying
   usage : List ℕ → Saying
+  apply : List ℕ → Saying
   source_name : List ℕ → Saying
   no_shrink : Saying
   no_optimise : Saying
@@ -241,6 +242,7 @@ Says words (out_dir directory) = IsDirectory (codes "-outjars") words directory
 Says words (mapping file) = IsFile (codes "-printmapping") words file
 Says words (seeds file) = IsFile (codes "-printseeds") words file
 Says words (usage file) = IsFile (codes "-printusage") words file
+Says words (apply file) = IsFile (codes "-applymapping") words file
 Says words (source_name name) = IsValue (codes "-renamesourcefileattribute") words name
 Says words no_shrink = words ≡ codes "-dontshrink" ∷ []
 Says words no_optimise = words ≡ codes "-dontoptimize" ∷ []
@@ -277,6 +279,10 @@ abbrev pub usage_files : Saying → Option (List ℕ)
 usage_files (usage file) = Some file
 usage_files _ = None
 
+abbrev pub apply_files : Saying → Option (List ℕ)
+apply_files (apply file) = Some file
+apply_files _ = None
+
 abbrev pub source_names : Saying → Option (List ℕ)
 source_names (source_name name) = Some name
 source_names _ = None
@@ -312,6 +318,7 @@ pub record IsConfig (words : List (List ℕ)) (witness : List ℕ) (rules : Rule
   pub one_mapping : filter_map mappings sayings ≡ rules.mapping ∷ []
   pub one_seeds : filter_map seed_files sayings ≡ option_to_list rules.seeds
   pub one_usage : filter_map usage_files sayings ≡ option_to_list rules.usage
+  pub one_apply : filter_map apply_files sayings ≡ option_to_list rules.apply
   pub one_source : filter_map source_names sayings ≡ option_to_list rules.source_name
   pub shrinks : rules.shrink ≡ not (list_any stops_shrinking sayings)
   pub optimises : rules.optimise ≡ not (list_any stops_optimising sayings)

@@ -31,7 +31,7 @@ is_left_out word = is_text word (codes "-assumenosideeffects") || is_text word (
     || is_text word (codes "-overloadaggressively") || is_text word (codes "-repackageclasses")
     || is_text word (codes "-include") || is_text word (codes "-basedirectory") || is_text word (codes "-target")
     || is_text word (codes "-optimizations") || is_text word (codes "-dump")
-    || is_text word (codes "-printconfiguration") || is_text word (codes "-applymapping")
+    || is_text word (codes "-printconfiguration")
 
 -- an option that sets nothing
 abbrev pub inert_setting : List ℕ → Option Setting
@@ -48,6 +48,7 @@ plain_setting word =
     else if is_text word (codes "-printmapping") then Some setting.Mapping
     else if is_text word (codes "-printseeds") then Some setting.Seeds
     else if is_text word (codes "-printusage") then Some setting.Usage
+    else if is_text word (codes "-applymapping") then Some setting.Apply
     else if is_text word (codes "-renamesourcefileattribute") then Some setting.SourceName
     else if is_text word (codes "-dontshrink") then Some (setting.Off Shrink)
     else if is_text word (codes "-dontoptimize") then Some (setting.Off Optimise)

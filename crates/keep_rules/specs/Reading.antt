@@ -89,6 +89,7 @@ set setting.OutDir d option values = once Directory d.out_dir option values >>= 
 set setting.Mapping d option values = once File d.mapping option values >>= λ v. Ok (record d { mapping = Some v })
 set setting.Seeds d option values = once File d.seeds option values >>= λ v. Ok (record d { seeds = Some v })
 set setting.Usage d option values = once File d.usage option values >>= λ v. Ok (record d { usage = Some v })
+set setting.Apply d option values = once File d.apply option values >>= λ v. Ok (record d { apply = Some v })
 set setting.SourceName d option values =
     once AnyWord d.source_name option values >>= λ v. Ok (record d { source_name = Some v })
 set (setting.Off step) d option values = without step d values
@@ -158,6 +159,7 @@ blank = record {
   mapping = None;
   seeds = None;
   usage = None;
+  apply = None;
   source_name = None;
   shrink = true;
   optimise = true;
@@ -179,6 +181,7 @@ rules_of d in_dir out_dir mapping = record {
   mapping = mapping;
   seeds = d.seeds;
   usage = d.usage;
+  apply = d.apply;
   shrink = d.shrink;
   optimise = d.optimise;
   obfuscate = d.obfuscate;

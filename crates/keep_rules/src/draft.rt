@@ -19,6 +19,7 @@ pub(crate) struct Draft {
     pub mapping: Option<Text>,
     pub seeds: Option<Text>,
     pub usage: Option<Text>,
+    pub apply: Option<Text>,
     pub source_name: Option<Text>,
     pub shrink: bool,
     pub optimise: bool,
@@ -38,6 +39,7 @@ impl Draft {
             mapping: None,
             seeds: None,
             usage: None,
+            apply: None,
             source_name: None,
             shrink: true,
             optimise: true,
@@ -107,6 +109,10 @@ impl Draft {
             }
             Setting::Usage => {
                 self.usage = Some(read_once(alloc, Value::File, &self.usage, option, values)?);
+                Ok(())
+            }
+            Setting::Apply => {
+                self.apply = Some(read_once(alloc, Value::File, &self.apply, option, values)?);
                 Ok(())
             }
             Setting::SourceName => {

@@ -26,6 +26,8 @@ pub(crate) enum Setting {
     Seeds,
     /// `-printusage`
     Usage,
+    /// `-applymapping`
+    Apply,
     /// `-renamesourcefileattribute`
     SourceName,
     /// `-dontshrink`, `-dontoptimize` and `-dontobfuscate`
@@ -76,6 +78,7 @@ fn plain_setting(word: &str) -> Option<Setting>
         "-printmapping" => Some(Setting::Mapping),
         "-printseeds" => Some(Setting::Seeds),
         "-printusage" => Some(Setting::Usage),
+        "-applymapping" => Some(Setting::Apply),
         "-renamesourcefileattribute" => Some(Setting::SourceName),
         "-dontshrink" => Some(Setting::Off(Step::Shrink)),
         "-dontoptimize" => Some(Setting::Off(Step::Optimise)),
@@ -133,6 +136,5 @@ fn is_left_out(word: &str) -> bool
             | "-optimizations"
             | "-dump"
             | "-printconfiguration"
-            | "-applymapping"
     )
 }

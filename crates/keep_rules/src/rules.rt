@@ -14,6 +14,8 @@ pub struct Rules {
     pub seeds: Option<Text>,
     /// The file of `-printusage`.
     pub usage: Option<Text>,
+    /// The file of `-applymapping`, an earlier mapping.
+    pub apply: Option<Text>,
     /// False where `-dontshrink` is given.
     pub shrink: bool,
     /// False where `-dontoptimize` is given.

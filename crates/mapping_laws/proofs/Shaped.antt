@@ -15,16 +15,16 @@ use Rattle.class_model.specs.declared.class.Method.{Method}
 use Rattle.class_rename.specs.Names as class_rename
 use Rattle.mapping_file.specs.declared.mapping.MapClass.{MapClass}
 use Rattle.mapping_file.specs.declared.mapping.MapField.{MapField}
-use Rattle.mapping_file.specs.declared.mapping.MapMethod.{MapMethod}
 use Rattle.mapping_file.specs.declared.mapping.Mapping.{Mapping}
-use Rattle.new_names.specs.NewNames.{all_field_names, all_method_names, class_line, class_lines, field_in, field_names}
-use Rattle.new_names.specs.NewNames.{method_in, method_names, names_given, names_of, new_class, new_field, new_method}
+use Rattle.new_names.specs.NewNames.{NameAndType, all_field_names, class_line, class_lines, field_in, field_names}
+use Rattle.new_names.specs.NewNames.{is_same, method_in, names_given, names_of, new_class, new_field, new_method}
 use Rattle.pair_clauses.specs.Members.{new_one}
-use Rattle.pair_clauses.specs.Shape.{number_of, shape_fault}
+use Rattle.pair_clauses.specs.Shape.{method_pairs, number_of, shape_fault}
 use Rattle.require_sys.proofs.Parts.{all_flat_map}
 use Rattle.pair_laws.proofs.PairSame.Expected.{numbered_class, some_under}
 use Rattle.pair_laws.proofs.PairSame.Lines.{AreLines, IsLine, lines_right}
-use Rattle.pair_laws.proofs.PairSame.Tables.{IsFound, found_among, looked}
+use Rattle.pair_laws.proofs.PairSame.Tables.{IsFound, all_method_pairs, found_among, looked, method_among_lines}
+use Rattle.pair_laws.proofs.PairSame.Tables.{pairs_tell}
 
 module _ (input output : List Class) (mapping : Mapping) (shape : None ≡ shape_fault input output mapping) where
   abbrev names : class_rename.Names
@@ -36,33 +36,33 @@ module _ (input output : List Class) (mapping : Mapping) (shape : None ≡ shape
   abbrev pub fields_table : List (List ℕ × List ℕ)
   fields_table = all_field_names mapping.classes
 
-  abbrev pub methods_table : List (List ℕ × List ℕ)
-  methods_table = all_method_names mapping.classes
+  abbrev pub methods_table : List (NameAndType × NameAndType)
+  methods_table = all_method_pairs mapping.classes
 
   -- ---- lines
 
   -- what holds of a line of a class
   pub record GoodLine (l : MapClass) : Type 0 where
     pub line : IsLine input output mapping.classes l
-    pub fields : AllByRecursion (IsFound fields_table) (field_names l.fields)
-    pub methods : AllByRecursion (IsFound methods_table) (method_names l.methods)
+    pub fields : AllByRecursion (IsFound is_text fields_table) (field_names l.fields)
+    pub methods : AllByRecursion (IsFound is_same methods_table) (method_pairs l.methods)
 
   pub all_good : AllByRecursion GoodLine mapping.classes
   all_good =
-      let fields = all_flat_map (IsFound fields_table) (λ (l : MapClass). field_names l.fields) mapping.classes
+      let fields = all_flat_map (IsFound is_text fields_table) (λ (l : MapClass). field_names l.fields) mapping.classes
       lines.fields in
-      let methods = all_flat_map (IsFound methods_table) (λ (l : MapClass). method_names l.methods) mapping.classes
+      let methods = all_flat_map (IsFound is_same methods_table) (λ (l : MapClass). method_pairs l.methods) mapping.classes
       lines.methods in
       all_weaker (λ (l : MapClass). IsLine input output mapping.classes l
-      × (AllByRecursion (IsFound fields_table) (field_names l.fields)
-      × AllByRecursion (IsFound methods_table) (method_names l.methods))) GoodLine
+      × (AllByRecursion (IsFound is_text fields_table) (field_names l.fields)
+      × AllByRecursion (IsFound is_same methods_table) (method_pairs l.methods))) GoodLine
       (λ l h. record { line = h.0; fields = h.1.0; methods = h.1.1 }) mapping.classes
       (all_both (IsLine input output mapping.classes)
-      (λ (l : MapClass). AllByRecursion (IsFound fields_table) (field_names l.fields)
-      × AllByRecursion (IsFound methods_table) (method_names l.methods)) mapping.classes lines.each
-      (all_both (λ (l : MapClass). AllByRecursion (IsFound fields_table) (field_names l.fields))
-      (λ (l : MapClass). AllByRecursion (IsFound methods_table)
-      (method_names l.methods)) mapping.classes fields methods))
+      (λ (l : MapClass). AllByRecursion (IsFound is_text fields_table) (field_names l.fields)
+      × AllByRecursion (IsFound is_same methods_table) (method_pairs l.methods)) mapping.classes lines.each
+      (all_both (λ (l : MapClass). AllByRecursion (IsFound is_text fields_table) (field_names l.fields))
+      (λ (l : MapClass). AllByRecursion (IsFound is_same methods_table)
+      (method_pairs l.methods)) mapping.classes fields methods))
 
   -- the line of a class
   pub line_of : (name : List ℕ) (l : MapClass) → class_line mapping name ≡ Some l → GoodLine l × (l.old ≡ name)
@@ -80,11 +80,11 @@ module _ (input output : List Class) (mapping : Mapping) (shape : None ≡ shape
 
   -- the names of members with lines are those of the tables
   pub field_found : (c : Class) (x : Field) (new : List ℕ) → new_field mapping c x ≡ Some new
-      → IsFound fields_table (x.name, new)
+      → IsFound is_text fields_table (x.name, new)
   field_found c x new e = by (class_line mapping c.name) refl e
     where
       by : (o : Option MapClass) → class_line mapping c.name ≡ o → option_and_then (λ l. field_in l x) o ≡ Some new
-          → IsFound fields_table (x.name, new)
+          → IsFound is_text fields_table (x.name, new)
       by None is e = absurd cc
       by (Some l) is e =
           let good = (line_of c.name l is).0 in
@@ -92,22 +92,23 @@ module _ (input output : List Class) (mapping : Mapping) (shape : None ≡ shape
           (λ (m : MapField). m.new) l.fields x.name (field_text x.ty) new good.fields e
 
   pub method_found : (c : Class) (x : Method) (new : List ℕ) → new_method mapping c x ≡ Some new
-      → IsFound methods_table (x.name, new)
+      → IsFound is_same methods_table ((x.name, method_text x.ty), (new, method_text x.ty))
   method_found c x new e = by (class_line mapping c.name) refl e
     where
       by : (o : Option MapClass) → class_line mapping c.name ≡ o → option_and_then (λ l. method_in l x) o ≡ Some new
-          → IsFound methods_table (x.name, new)
+          → IsFound is_same methods_table ((x.name, method_text x.ty), (new, method_text x.ty))
       by None is e = absurd cc
       by (Some l) is e =
           let good = (line_of c.name l is).0 in
-          found_among methods_table (λ (m : MapMethod). m.old) (λ (m : MapMethod). method_text m.ty)
-          (λ (m : MapMethod). m.new) l.methods x.name (method_text x.ty) new good.methods e
+          method_among_lines methods_table l.methods (x.name, method_text x.ty) new good.methods e
 
-  pub field_name : (a new : List ℕ) → IsFound fields_table (a, new) → names.field a ≡ new
+  pub field_name : (a new : List ℕ) → IsFound is_text fields_table (a, new) → names.field a ≡ new
   field_name a new h = ap (λ o. unwrap_or o a) h.old
 
-  pub method_name : (a new d : List ℕ) → IsFound methods_table (a, new) → names.method a d ≡ new
-  method_name a new d h = ap (λ o. unwrap_or o a) h.old
+  pub method_name : (a new d : List ℕ) → IsFound is_same methods_table ((a, d), (new, d)) → names.method a d ≡ new
+  method_name a new d h =
+      pairs_tell mapping.classes (a, d)
+      ∙ ap (λ (o : Option NameAndType). let n : NameAndType = unwrap_or o (a, d) in n.0) h.old
 
   -- ---- the class of the output
 

@@ -244,6 +244,7 @@ module _ (input output : List Class) (mapping : Mapping) (rules : Rules) (place 
         h.lined;
     members = members_alike;
     codes = bodies_alike;
+    ranges = h.ranges;
   }
 
 pub mapped_same : MappedKeepsSame

@@ -2,11 +2,12 @@
 //
 // A method that its package alone may override is overridden by the nearest one of its place. No place is told of other
 // methods, of which most sets have no others.
-ghost use Rattle.std.specs.Prelude.{◌≡◌, [], IfOk, OnOk, ◌++◌, map};
+ghost use Rattle.std.specs.Prelude.{◌≡◌, [], IfOk, IsTrue, OnOk, ◌++◌, map};
 ghost use Rattle.std.specs.List.{cons_option, filter_map};
 ghost use Rattle.std.specs.List.Sorted.{IsSorted};
 ghost use Rattle.std.specs.Ordering.{nat_cmp};
 ghost use Rattle.class_pool.specs.Found.{package_of};
+ghost use Rattle.method_places.specs.bodies.Alike.{place_of};
 ghost use Rattle.method_places.specs.bodies.Nearest.{is_overriding};
 ghost use Rattle.method_places.specs.bodies.Places.{HavePlaces, is_part, joined, key_in, package_number, part_row};
 ghost use Rattle.method_places.specs.bodies.Places.{place_at, place_in};
@@ -38,6 +39,8 @@ pub struct Places {
     pub each: Items<Items<InstanceMethod>>,
     /// Of these the ones that methods of all packages may override.
     pub opening: Items<Items<InstanceMethod>>,
+    /// For each item how many keys are less than that of its method; only speed rests on it.
+    hints: Vec<usize>,
 }
 
 impl Places {
@@ -62,11 +65,13 @@ impl Places {
             table,
             Part::Open,
         )?;
+        let hints = hints_of(alloc, each.as_slice())?;
         Ok(Places {
             packages,
             keys,
             each,
             opening,
+            hints,
         })
     }
 
@@ -80,7 +85,8 @@ impl Places {
         requires { IsSorted nat_cmp self.now.keys.items }
         ensures { result ≡ place_in self.now.packages self.now.keys.items row.now }
     {
-        place_in(self.packages.as_slice(), self.keys.as_slice(), row)
+        let hint = hint_of(self.hints.as_slice(), row);
+        place_in(self.packages.as_slice(), self.keys.as_slice(), row, hint)
     }
 }
 
@@ -227,7 +233,7 @@ fn add_placed(
     if !is_part(part, row) {
         return Ok(());
     }
-    let place = place_in(packages, keys, row);
+    let place = place_in(packages, keys, row, keys.len());
     if place != 0 {
         placed.push(InstanceMethod {
             class: row.class,
@@ -249,8 +255,50 @@ fn is_part(part: Part, row: &InstanceMethod) -> bool
     }
 }
 
-/// The place of a method that may override others, 0 where it has none.
-fn place_in(packages: &[usize], keys: &[u64], row: &InstanceMethod) -> usize
+/// For each item how many keys are less than that of its method, of the methods that have places.
+fn hints_of(alloc: Global, table: &[Items<InstanceMethod>]) -> M<Vec<usize>> {
+    let mut hints = vec![in alloc; 0; item_bound(table)]?;
+    for rows in table {
+        add_hints(&mut hints, rows.as_slice());
+    }
+    Ok(hints)
+}
+
+fn add_hints(hints: &mut Vec<usize>, rows: &[InstanceMethod]) {
+    for row in rows {
+        let item = row.item as usize;
+        if item < hints.len() {
+            hints[item] = row.number.saturating_sub(1);
+        }
+    }
+}
+
+/// No item is as great.
+fn item_bound(table: &[Items<InstanceMethod>]) -> usize {
+    let mut bound = 0;
+    for rows in table {
+        bound = bound.max(bound_of(rows.as_slice()));
+    }
+    bound
+}
+
+fn bound_of(rows: &[InstanceMethod]) -> usize {
+    let mut bound = 0;
+    for row in rows {
+        bound = bound.max((row.item as usize).saturating_add(1));
+    }
+    bound
+}
+
+fn hint_of(hints: &[usize], row: &InstanceMethod) -> usize {
+    match hints.get(row.item as usize) {
+        Some(hint) => *hint,
+        None => 0,
+    }
+}
+
+/// The place of a method that may override others, 0 where it has none. Perhaps so many keys are less than its own.
+fn place_in(packages: &[usize], keys: &[u64], row: &InstanceMethod, hint: usize) -> usize
     requires { IsSorted nat_cmp keys.now }
     ensures { result ≡ place_in packages.now keys.now row.now }
 {
@@ -258,21 +306,44 @@ fn place_in(packages: &[usize], keys: &[u64], row: &InstanceMethod) -> usize
         return 0;
     }
     match key_of(packages, row) {
-        Some(key) => place_at(keys, key),
+        Some(key) => place_at(keys, key, hint),
         None => 0,
     }
 }
 
 /// The place of a key, 0 where it isn't there.
-fn place_at(keys: &[u64], key: u64) -> usize
+fn place_at(keys: &[u64], key: u64, hint: usize) -> usize
     requires { IsSorted nat_cmp keys.now }
     ensures { result ≡ place_at keys.now key }
 {
-    let place = place_of(keys, key);
+    let place = place_near(keys, key, hint);
     match keys.get(place) {
         Some(found) if *found == key => place + 1,
         _ => 0,
     }
+}
+
+/// How many of the first keys are less than one.
+fn place_near(keys: &[u64], key: u64, hint: usize) -> usize
+    requires { IsSorted nat_cmp keys.now }
+    ensures { result ≡ place_of keys.now key }
+{
+    if is_place(keys, key, hint) {
+        hint
+    } else {
+        place_of(keys, key)
+    }
+}
+
+/// Whether so many are.
+fn is_place(keys: &[u64], key: u64, hint: usize) -> bool
+    requires { IsSorted nat_cmp keys.now }
+    ensures { IsTrue result → place_of keys.now key ≡ hint }
+{
+    if hint >= keys.len() || keys[hint] < key {
+        return false;
+    }
+    hint == 0 || keys[hint - 1] < key
 }
 
 /// Whether a method may override others.

@@ -1,5 +1,5 @@
 // Tables of the members of one class.
-ghost use Rattle.std.specs.Prelude.{◌≡◌, if◌then◌else◌, IfOk, OnOk, Some};
+ghost use Rattle.std.specs.Prelude.{◌≡◌, ℕ, List, ◌++◌, if◌then◌else◌, IfOk, OnOk, Some};
 ghost use Rattle.std.specs.Map.{lookup};
 ghost use Rattle.jv_base.specs.Types as descriptor;
 ghost use Rattle.new_names.specs.NewNames.{NameAndType, field_lines, is_same, method_lines};
@@ -39,12 +39,21 @@ pub(crate) fn methods_in(alloc: Global, lines: &[MapMethod]) -> M<MemberTable>
     ensures { IfOk result (λ table. TellsMembers table (method_lines lines.now)) }
 {
     let mut table = Table::new(alloc);
+    put_methods(alloc, &mut table, lines)?;
+    Ok(table)
+}
+
+/// Puts the new names of methods before those that there are.
+pub(crate) fn put_methods(alloc: Global, table: &mut MemberTable, lines: &[MapMethod]) -> M<()>
+    ensures { (rest : List (NameAndType × List ℕ)) → TellsMembers table.old rest
+        → OnOk result (TellsMembers table.new (method_lines lines.now ++ rest)) }
+{
     let mut left = lines.len();
     while left > 0 {
         left -= 1;
-        put_method(alloc, &mut table, &lines[left])?;
+        put_method(alloc, table, &lines[left])?;
     }
-    Ok(table)
+    Ok(())
 }
 
 fn put_method(alloc: Global, table: &mut MemberTable, line: &MapMethod) -> M<()>

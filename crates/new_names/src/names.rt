@@ -3,6 +3,7 @@ ghost use Rattle.std.specs.Prelude.{◌≡◌, IfOk};
 ghost use Rattle.std.specs.Option.{option_map};
 ghost use Rattle.new_names.specs.NewNames.{class_line, names_of};
 
+use crate::members::MemberTable;
 use crate::tables::{ClassTable, NameTable, classes_of, fields_of, methods_of};
 use jv_base::{M, Name, Text};
 use mapping_file::{MapClass, Mapping};
@@ -15,13 +16,13 @@ pub struct NewNames<'a> {
     mapping: &'a Mapping,
     classes: ClassTable<'a>,
     fields: NameTable,
-    methods: NameTable,
+    methods: MemberTable,
 }
 
 impl<'a> Model for NewNames<'a> {
     ghost use Rattle.mapping_file.specs.declared.mapping.Mapping.{Mapping};
     ghost use Rattle.new_names.specs.NewNames.{all_field_names, all_method_names};
-    ghost use Rattle.new_names.specs.bodies.Tables.{TellsClasses, TellsNames};
+    ghost use Rattle.new_names.specs.bodies.Tables.{TellsClasses, TellsMembers, TellsNames};
 
     ghost Value = { Mapping };
 
@@ -29,7 +30,7 @@ impl<'a> Model for NewNames<'a> {
 
     ghost invariant = { λ n. TellsClasses n.classes n.mapping.now.classes
         × TellsNames n.fields (all_field_names n.mapping.now.classes)
-        × TellsNames n.methods (all_method_names n.mapping.now.classes) };
+        × TellsMembers n.methods (all_method_names n.mapping.now.classes) };
 }
 
 impl<'a> NewNames<'a> {
@@ -76,13 +77,13 @@ impl<'a> NewNames<'a> {
         }
     }
 
-    /// The name of a method with a descriptor wherever it stands.
-    pub fn method<'t>(&'t self, name: &'t Name, _ty: &Text) -> &'t Name
-        ensures { result.now ≡ (names_of self.now).method name.now _ty.now }
+    /// The name of a method wherever it stands, by its name and descriptor.
+    pub fn method<'t>(&'t self, method: &'t (Name, Text)) -> &'t Name
+        ensures { result.now ≡ (names_of self.now).method method.now.0 method.now.1 }
     {
-        match self.methods.get(name) {
+        match self.methods.get(method) {
             Some(new) => new,
-            None => name,
+            None => &method.0,
         }
     }
 }

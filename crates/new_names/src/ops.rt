@@ -260,8 +260,8 @@ fn is_mapped_method_ref(
     ensures { IfOk result (λ same. IsTrue same ↔ (renamed_method_ref (names_of names.now) old.now ≡ new.now)) }
 {
     let ty = renamed_method_text(alloc, names, &old.ty)?;
-    let name = names.method(&old.name, &old.ty);
-    Ok(is_same_ref(names, old, name, &ty, new))
+    let method = (old.name.clone()?, old.ty.clone()?);
+    Ok(is_same_ref(names, old, names.method(&method), &ty, new))
 }
 
 /// Whether a reference names the class of another one under its new name, a member of this name and descriptor.

@@ -5,12 +5,14 @@ ghost use Rattle.std.specs.Prelude.{◌≡◌, ℕ, List, [], ◌++◌, if◌the
 ghost use Rattle.std.specs.Map.{lookup};
 ghost use Rattle.std.specs.Option.{option_map};
 ghost use Rattle.jv_base.specs.Names.{is_text};
-ghost use Rattle.new_names.specs.NewNames.{all_field_names, all_method_names, field_names, method_names};
-ghost use Rattle.new_names.specs.bodies.Tables.{TellsClasses, TellsNames};
+ghost use Rattle.new_names.specs.NewNames.{NameAndType, all_field_names, all_method_names, class_names, field_names};
+ghost use Rattle.new_names.specs.NewNames.{method_lines};
+ghost use Rattle.new_names.specs.bodies.Tables.{TellsClasses, TellsMembers, TellsNames};
 
+use crate::members::{MemberTable, put_methods};
 use jv_base::{M, Name};
 use key_table::Table;
-use mapping_file::{MapClass, MapField, MapMethod};
+use mapping_file::{MapClass, MapField};
 use std::alloc::Global;
 
 /// New names by old ones.
@@ -88,39 +90,40 @@ fn put_field(table: &mut NameTable, line: &MapField) -> M<()>
     put_name(table, &line.old, &line.new)
 }
 
-/// The new names of the methods of all classes.
-pub(crate) fn methods_of(alloc: Global, lines: &[MapClass]) -> M<NameTable>
-    ensures { IfOk result (λ table. TellsNames table (all_method_names lines.now)) }
+/// The new names of the methods of all classes, by their names and descriptors.
+pub(crate) fn methods_of(alloc: Global, lines: &[MapClass]) -> M<MemberTable>
+    ensures { IfOk result (λ table. TellsMembers table (all_method_names lines.now)) }
 {
     let mut table = Table::new(alloc);
     let mut left = lines.len();
     while left > 0 {
         left -= 1;
-        put_methods_of(&mut table, &lines[left])?;
+        put_methods_of(alloc, &mut table, &lines[left])?;
     }
     Ok(table)
 }
 
-fn put_methods_of(table: &mut NameTable, line: &MapClass) -> M<()>
-    ensures { (rest : List (List ℕ × List ℕ)) → TellsNames table.old rest
-        → OnOk result (TellsNames table.new (method_names line.now.methods ++ rest)) }
+fn put_methods_of(alloc: Global, table: &mut MemberTable, line: &MapClass) -> M<()>
+    ensures { (rest : List (NameAndType × List ℕ)) → TellsMembers table.old rest
+        → OnOk result (TellsMembers table.new (method_lines line.now.methods ++ rest)) }
 {
-    put_methods(table, line.methods.as_slice())
+    put_methods(alloc, table, line.methods.as_slice())
 }
 
-fn put_methods(table: &mut NameTable, lines: &[MapMethod]) -> M<()>
-    ensures { (rest : List (List ℕ × List ℕ)) → TellsNames table.old rest
-        → OnOk result (TellsNames table.new (method_names lines.now ++ rest)) }
+/// The new names of classes.
+pub(crate) fn class_names_of(alloc: Global, lines: &[MapClass]) -> M<NameTable>
+    ensures { IfOk result (λ table. TellsNames table (class_names lines.now)) }
 {
+    let mut table = Table::new(alloc);
     let mut left = lines.len();
     while left > 0 {
         left -= 1;
-        put_method(table, &lines[left])?;
+        put_class_name(&mut table, &lines[left])?;
     }
-    Ok(())
+    Ok(table)
 }
 
-fn put_method(table: &mut NameTable, line: &MapMethod) -> M<()>
+fn put_class_name(table: &mut NameTable, line: &MapClass) -> M<()>
     ensures { OnOk result ((name : List ℕ) → lookup (is_text name) table.new
         ≡ (if is_text line.now.old name then Some line.now.new else lookup (is_text name) table.old)) }
 {

@@ -14,12 +14,13 @@ use Rattle.pair_clauses.specs.Closing.{lacking, lined_items, lost_seed, place_of
 use Rattle.pair_clauses.specs.Codes as coded
 use Rattle.pair_clauses.specs.Finding.{FirstOf}
 use Rattle.pair_clauses.specs.FixedNames.{fixed_by, fixed_fault, package_fault}
+use Rattle.pair_clauses.specs.LineRanges.{range_fault}
 use Rattle.pair_clauses.specs.Members as members
 use Rattle.pair_clauses.specs.declared.place.Place.{Place}
 use Rattle.pair_edits.specs.Edits.{ClassEditIllegal, stray_fault}
 use Rattle.pair_edits.specs.Entries.{edited_class, edited_input}
-use Rattle.pair_checker.specs.Clauses.{CodeDiffers, EditIllegal, FixedName, MemberDiffers, NotClosed, Package}
-use Rattle.pair_checker.specs.Clauses.{SeedLost, WitnessStray, given_names}
+use Rattle.pair_checker.specs.Clauses.{CodeDiffers, EditIllegal, FixedName, LineRange, MemberDiffers, NotClosed}
+use Rattle.pair_checker.specs.Clauses.{Package, SeedLost, WitnessStray, given_names}
 use Rattle.pair_checker.specs.bodies.Matching.{IsRead}
 use Rattle.pair_checker.specs.declared.matching.Pair.{Pair}
 
@@ -30,6 +31,15 @@ module _ {E : Type 0} (pair : Pair) (rules : Rules) (is : IsRead pair rules) (r 
   found_fixed h = subst
       (λ (g : List ClassNames). IfOk r (λ found. found ≡ fixed_fault (fixed_by rules pair.input.now) pair.input.now g))
       is.given (h rules is.fixed)
+
+  pub found_range : IfOk r (λ found. found
+      ≡ range_fault pair.names.now pair.input.now pair.given.now pair.output.now)
+      → IfOk r (LineRange pair.input.now pair.output.now pair.mapping.now rules)
+  found_range h = subst
+      (λ (g : List ClassNames). IfOk r (λ found. found ≡ range_fault pair.mapping.now pair.input.now g pair.output.now))
+      is.given
+      (subst (λ (m : Mapping). IfOk r (λ found. found ≡ range_fault m pair.input.now pair.given.now pair.output.now))
+      is.names h)
 
   pub found_package : IfOk r (λ found. found ≡ package_fault pair.input.now pair.given.now)
       → IfOk r (Package pair.input.now pair.output.now pair.mapping.now rules)

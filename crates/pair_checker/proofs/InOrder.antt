@@ -35,6 +35,7 @@ stands_at clause.MemberDiffers = refl
 stands_at clause.WitnessStray = refl
 stands_at clause.EditIllegal = refl
 stands_at clause.CodeDiffers = refl
+stands_at clause.LineRange = refl
 
 -- what holds of a front holds of each of its elements
 front_holds : {A : Type 0} (P : A → Type 0) (xs : List A) (n i : ℕ) (x : A) → AllByRecursion P (take n xs) → i < n
@@ -68,6 +69,7 @@ module _ (input output : List Class) (mapping : Mapping) (rules : Rules) (witnes
   none_holds h clause.WitnessStray = h.1.1.1.1.1.1.0
   none_holds h clause.EditIllegal = h.1.1.1.1.1.1.1.0
   none_holds h clause.CodeDiffers = h.1.1.1.1.1.1.1.1.0
+  none_holds h clause.LineRange = h.1.1.1.1.1.1.1.1.1.0
 
   -- ---- one holds
 
@@ -94,7 +96,10 @@ module _ (input output : List Class) (mapping : Mapping) (rules : Rules) (witnes
       found_at answer clause.EditIllegal (refl, (refl, (a, (b, (d, (e, (g, (h, (k, tt))))))))) f
   first_holds answer (inr (a, inr (b, inr (d, inr (e, inr (g, inr (h, inr (k, inr (l, inl f))))))))) =
       found_at answer clause.CodeDiffers (refl, (refl, (a, (b, (d, (e, (g, (h, (k, (l, tt)))))))))) f
-  first_holds answer (inr (a, inr (b, inr (d, inr (e, inr (g, inr (h, inr (k, inr (l, inr (m, f)))))))))) = absurd f
+  first_holds answer (inr (a, inr (b, inr (d, inr (e, inr (g, inr (h, inr (k, inr (l, inr (m, inl f)))))))))) =
+      found_at answer clause.LineRange (refl, (refl, (a, (b, (d, (e, (g, (h, (k, (l, (m, tt))))))))))) f
+  first_holds answer (inr (a, inr (b, inr (d, inr (e, inr (g, inr (h, inr (k, inr (l, inr (m, inr (n, f))))))))))) =
+      absurd f
 
   pub matches_by : (r : Result (Unit {0}) (Or No)) → Tests input output mapping rules witness tested_clauses r
       → Matches input output mapping rules witness r

@@ -54,6 +54,7 @@ module _ (input output : List Class) (mapping : Mapping) (rules : Rules) (witnes
   one_place clause.EditIllegal = one_illegal witness input
   one_place clause.CodeDiffers =
       one_code_place mapping (filter_of rules) (edited_input witness input) (given_names mapping input) output
+  one_place clause.LineRange = one_equal _
 
   -- a clause that holds isn't one that finds nothing
   not_none : (c : Clause) (p : Place) → Finds input output mapping rules witness c (Some p)

@@ -17,6 +17,7 @@ use Rattle.new_names.specs.declared.class_names.ClassNames.{ClassNames}
 use Rattle.pair_clauses.specs.Closing as closing
 use Rattle.pair_clauses.specs.Codes as codes_of
 use Rattle.pair_clauses.specs.FixedNames as names
+use Rattle.pair_clauses.specs.LineRanges.{range_fault}
 use Rattle.pair_clauses.specs.Members as members
 use Rattle.pair_clauses.specs.Shape.{shape_fault}
 use Rattle.pair_clauses.specs.declared.place.Place.{Place}
@@ -40,6 +41,7 @@ number clause.MemberDiffers = 7
 number clause.WitnessStray = 8
 number clause.EditIllegal = 9
 number clause.CodeDiffers = 10
+number clause.LineRange = 11
 
 -- the name of a clause, as it is printed
 abbrev pub clause_name : Clause → List ℕ
@@ -54,6 +56,7 @@ clause_name clause.MemberDiffers = codes "MemberDiffers"
 clause_name clause.WitnessStray = codes "WitnessStray"
 clause_name clause.EditIllegal = codes "EditIllegal"
 clause_name clause.CodeDiffers = codes "CodeDiffers"
+clause_name clause.LineRange = codes "LineRange"
 
 -- ---- the files of the output
 
@@ -77,7 +80,8 @@ module _ (input output : List Class) (mapping : Mapping) (rules : Rules) where
   abbrev pub MapShape : Option Place → Type 0
   MapShape found = found ≡ shape_fault input output mapping
 
-  -- a fixed name has another new one, or a name that isn't fixed has a fixed one
+  -- a fixed name has another new one, or a name that isn't fixed has a fixed one; names of methods are fixed for their
+  -- descriptors
   abbrev pub FixedName : Option Place → Type 0
   FixedName found = found ≡ names.fixed_fault (names.fixed_by rules input) input (given_names mapping input)
 
@@ -111,6 +115,10 @@ module _ (input output : List Class) (mapping : Mapping) (rules : Rules) where
   CodeDiffers witness found =
       codes_of.CodeDiffers mapping (filter_of rules) (edited_input witness input) (given_names mapping input) output found
 
+  -- a code of the output has a line outside the range that the mapping tells of its method
+  abbrev pub LineRange : Option Place → Type 0
+  LineRange found = found ≡ range_fault mapping input (given_names mapping input) output
+
   -- the first place of a clause; an output that was read as a set of classes doesn't fail by its files
   abbrev pub Finds : Witness → Clause → Option Place → Type 0
   Finds witness clause.OutputFormat found = found ≡ None
@@ -124,3 +132,4 @@ module _ (input output : List Class) (mapping : Mapping) (rules : Rules) where
   Finds witness clause.WitnessStray found = WitnessStray witness found
   Finds witness clause.EditIllegal found = EditIllegal witness found
   Finds witness clause.CodeDiffers found = CodeDiffers witness found
+  Finds witness clause.LineRange found = LineRange found

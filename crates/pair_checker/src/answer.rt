@@ -29,6 +29,8 @@ pub enum Clause {
     EditIllegal,
     /// A code of the output isn't the one of the input, after the acts of the witness, under new names.
     CodeDiffers,
+    /// A line of a code of the output lies outside the range that the mapping tells of its method.
+    LineRange,
 }
 
 impl Clause {
@@ -48,6 +50,7 @@ impl Clause {
             Clause::WitnessStray => "WitnessStray",
             Clause::EditIllegal => "EditIllegal",
             Clause::CodeDiffers => "CodeDiffers",
+            Clause::LineRange => "LineRange",
         }
     }
 }

@@ -19,7 +19,8 @@ use mapping_file::Mapping;
 use mark_core::System;
 use new_names::{ClassNames, NewNames};
 use pair_clauses::{
-    Place, closed_fault, fixed_fault, member_differs, package_fault, seed_fault, shape_fault,
+    Place, closed_fault, fixed_fault, member_differs, package_fault, range_fault, seed_fault,
+    shape_fault,
 };
 use pair_edits::{Entries, code_differs, illegal_edit, stray_entry};
 use std::alloc::Global;
@@ -66,6 +67,7 @@ pub(crate) fn check_clauses(alloc: Global, pair: &Pair<'_, '_, '_>) -> Result<()
         Clause::WitnessStray,
         Clause::EditIllegal,
         Clause::CodeDiffers,
+        Clause::LineRange,
     ];
     test_clauses(alloc, pair, &clauses)
 }
@@ -116,6 +118,7 @@ fn place_of(alloc: Global, pair: &Pair<'_, '_, '_>, clause: Clause) -> M<Option<
         Clause::WitnessStray => stray_entry(alloc, pair.input, pair.given, pair.witness),
         Clause::EditIllegal => illegal_edit(alloc, pair.entries, pair.input),
         Clause::CodeDiffers => codes_place(alloc, pair),
+        Clause::LineRange => range_fault(alloc, pair.names, pair.input, pair.given, pair.output),
     }
 }
 

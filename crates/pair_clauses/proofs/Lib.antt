@@ -4,7 +4,9 @@ pub mod OnePlace
 pub mod Searching
 pub mod SeenLaw
 mod Fixing
+mod Lining
 mod Needed
+mod Ranged
 mod Standing
 pub mod Unlike
 pub mod Zipped

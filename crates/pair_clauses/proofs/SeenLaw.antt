@@ -10,7 +10,6 @@ use Rattle.std.proofs.Math.Bool.{or-false}
 use Rattle.std.proofs.lemmas.Bool.{not-false}
 use Rattle.indexmap.specs.IndexSet.{insert_key}
 use Rattle.jv_base.specs.Names.{is_text}
-use Rattle.jv_base.proofs.Equality.{same_text}
 use Rattle.jv_base.proofs.Lists.{any_more}
 use Rattle.mapping_file.specs.declared.mapping.MapClass.{MapClass}
 use Rattle.new_names.proofs.Inserted.{either_way}
@@ -28,50 +27,46 @@ lookup_more {K} {V} test (x ∷ xs) k v = by (test x.0) (lookup_more test xs k v
     by true e = refl
     by false e = e
 
-agrees : (there : Option (List ℕ)) (new : List ℕ) → is_other there new ≡ false → (there ≡ None) ⊎ (there ≡ Some new)
-agrees None new h = inl refl
-agrees (Some old) new h = inr (ap Some (same_text old new (not-false (is_text old new) h)))
+module _ {K : Type 0} (same : K → K → Bool) (decides : (a b : K) → Decides (same a b) (a ≡ b)) where
+  agrees : (there : Option K) (new : K) → is_other same there new ≡ false → (there ≡ None) ⊎ (there ≡ Some new)
+  agrees None new h = inl refl
+  agrees (Some old) new h = inr (ap Some ((decides old new).0 (not-false (same old new) h)))
 
--- the new name of the first pair, where a pair is put that has no other new name yet
-pub first_put : (pairs : List (List ℕ × List ℕ)) (old new : List ℕ)
-    → is_other (lookup (λ k. is_text k old) pairs) new ≡ false
-    → (name : List ℕ) → cond (is_text old name) (Some new) (lookup (λ k. is_text k name) pairs)
-    ≡ lookup (λ k. is_text k name) (pairs ++ (old, new) ∷ [])
-first_put pairs old new none name =
-    by (is_text old name) refl (lookup (λ k. is_text k name) pairs) refl
-    ∙ sym (lookup_more (λ k. is_text k name) pairs old new)
-  where
-    by : (b : Bool) → is_text old name ≡ b → (o : Option (List ℕ)) → lookup (λ k. is_text k name) pairs ≡ o
-        → cond b (Some new) o ≡ option_or o (cond b (Some new) None)
-    by false is None e = refl
-    by false is (Some v) e = refl
-    by true is None e = refl
-    by true is (Some v) e = with_agreed (agrees (lookup (λ k. is_text k old) pairs) new none)
-      where
-        with_agreed : (lookup (λ k. is_text k old) pairs ≡ None) ⊎ (lookup (λ k. is_text k old) pairs ≡ Some new)
-            → Some new ≡ Some v
-        with_agreed (inl missing) =
-            let s : old ≡ name = same_text old name is in
-            let f : lookup (λ k. is_text k old) pairs ≡ Some v =
-            ap (λ (t : List ℕ). lookup (λ k. is_text k t) pairs) s ∙ e in
-            absurd cc
-        with_agreed (inr present) =
-            let s : old ≡ name = same_text old name is in
-            let f : lookup (λ k. is_text k old) pairs ≡ Some v =
-            ap (λ (t : List ℕ). lookup (λ k. is_text k t) pairs) s ∙ e in
-            sym present ∙ f
+  -- the new one of the first pair, where a pair is put that has no other new one yet
+  pub first_put : (pairs : List (K × K)) (old new : K) → is_other same (lookup (λ k. same k old) pairs) new ≡ false
+      → (one : K) → cond (same old one) (Some new) (lookup (λ k. same k one) pairs)
+      ≡ lookup (λ k. same k one) (pairs ++ (old, new) ∷ [])
+  first_put pairs old new none one =
+      by (same old one) refl (lookup (λ k. same k one) pairs) refl ∙ sym (lookup_more (λ k. same k one) pairs old new)
+    where
+      by : (b : Bool) → same old one ≡ b → (o : Option K) → lookup (λ k. same k one) pairs ≡ o
+          → cond b (Some new) o ≡ option_or o (cond b (Some new) None)
+      by false is None e = refl
+      by false is (Some v) e = refl
+      by true is None e = refl
+      by true is (Some v) e = with_agreed (agrees (lookup (λ k. same k old) pairs) new none)
+        where
+          with_agreed : (lookup (λ k. same k old) pairs ≡ None) ⊎ (lookup (λ k. same k old) pairs ≡ Some new)
+              → Some new ≡ Some v
+          with_agreed (inl missing) =
+              let s : old ≡ one = (decides old one).0 is in
+              let f : lookup (λ k. same k old) pairs ≡ Some v = ap (λ (t : K). lookup (λ k. same k t) pairs) s ∙ e in
+              absurd cc
+          with_agreed (inr present) =
+              let s : old ≡ one = (decides old one).0 is in
+              let f : lookup (λ k. same k old) pairs ≡ Some v = ap (λ (t : K). lookup (λ k. same k t) pairs) s ∙ e in
+              sym present ∙ f
 
--- what a table finds where a pair was put
-pub put_there : (pairs : List (List ℕ × List ℕ)) (old new key value : List ℕ) (there here : Option (List ℕ))
-    (name : List ℕ)
-    → is_other (lookup (λ k. is_text k old) pairs) new ≡ false → key ≡ old → value ≡ new
-    → here ≡ cond (is_text key name) (Some value) there → there ≡ lookup (λ k. is_text k name) pairs
-    → here ≡ lookup (λ k. is_text k name) (pairs ++ (old, new) ∷ [])
-put_there pairs old new key value there here name none k v put told =
-    put ∙ ap (λ (t : List ℕ). cond (is_text t name) (Some value) there) k
-    ∙ ap (λ (t : List ℕ). cond (is_text old name) (Some t) there) v
-    ∙ ap (λ (o : Option (List ℕ)). cond (is_text old name) (Some new) o) told
-    ∙ first_put pairs old new none name
+  -- what a table finds where a pair was put
+  pub put_there : (pairs : List (K × K)) (old new key value : K) (there here : Option K) (one : K)
+      → is_other same (lookup (λ k. same k old) pairs) new ≡ false → key ≡ old → value ≡ new
+      → here ≡ cond (same key one) (Some value) there → there ≡ lookup (λ k. same k one) pairs
+      → here ≡ lookup (λ k. same k one) (pairs ++ (old, new) ∷ [])
+  put_there pairs old new key value there here one none k v put told =
+      put ∙ ap (λ (t : K). cond (same t one) (Some value) there) k
+      ∙ ap (λ (t : K). cond (same old one) (Some t) there) v
+      ∙ ap (λ (o : Option K). cond (same old one) (Some new) o) told
+      ∙ first_put pairs old new none one
 
 -- ---- names that were put
 
@@ -115,16 +110,16 @@ seen_more eq decides (Err e) keys grown seen k key put same has = tt
 
 -- ---- lines
 
-map_last : {A B : Type 0} (f : A → B) (xs : List A) (x : A) → map f xs ++ f x ∷ [] ≡ map f (xs ++ x ∷ [])
+pub map_last : {A B : Type 0} (f : A → B) (xs : List A) (x : A) → map f xs ++ f x ∷ [] ≡ map f (xs ++ x ∷ [])
 map_last f [] x = refl
 map_last {A} {B} f (y ∷ ys) x = ap (λ (zs : List B). f y ∷ zs) (map_last f ys x)
 
 -- pairs the other way round, with one more
-pub swapped_more : (pairs : List (List ℕ × List ℕ)) (old new name : List ℕ)
-    → lookup (λ k. is_text k name) (map (λ (p : List ℕ × List ℕ). (p.1, p.0)) pairs ++ (new, old) ∷ [])
-    ≡ lookup (λ k. is_text k name) (map (λ (p : List ℕ × List ℕ). (p.1, p.0)) (pairs ++ (old, new) ∷ []))
-swapped_more pairs old new name =
-    ap (lookup (λ k. is_text k name)) (map_last (λ (p : List ℕ × List ℕ). (p.1, p.0)) pairs (old, new))
+pub swapped_more : {K : Type 0} (same : K → K → Bool) (pairs : List (K × K)) (old new one : K)
+    → lookup (λ k. same k one) (map (λ (p : K × K). (p.1, p.0)) pairs ++ (new, old) ∷ [])
+    ≡ lookup (λ k. same k one) (map (λ (p : K × K). (p.1, p.0)) (pairs ++ (old, new) ∷ []))
+swapped_more {K} same pairs old new one =
+    ap (lookup (λ k. same k one)) (map_last (λ (p : K × K). (p.1, p.0)) pairs (old, new))
 
 -- a name among those of others
 pub any_map : {A B : Type 0} (test : B → Bool) (f : A → B) (xs : List A)

@@ -20,7 +20,8 @@ drop_some (y ∷ xs) (suc i) x h =
     let e : suc i + 1 ≡ suc (i + 1) = omega arith in
     drop_some xs i x h ∙ ap (λ (n : ℕ). x ∷ drop n (y ∷ xs)) (sym e)
 
-zip_nil : {A B : Type 0} (xs : List A) → zip {K = A} {X = B} xs [] ≡ []
+-- beside no elements stands none
+pub zip_nil : {A B : Type 0} (xs : List A) → zip {K = A} {X = B} xs [] ≡ []
 zip_nil [] = refl
 zip_nil (x ∷ xs) = refl
 

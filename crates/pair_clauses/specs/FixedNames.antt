@@ -9,7 +9,10 @@ use Rattle.class_model.specs.declared.class.Field.{Field}
 use Rattle.class_model.specs.declared.class.Method.{Method}
 use Rattle.class_pool.specs.Found.{package_of}
 use Rattle.keep_rules.specs.declared.rules.Rules.{Rules}
+use Rattle.jv_base.specs.Types.{method_text}
+use Rattle.class_rename.specs.Names.{MethodName}
 use Rattle.fresh_names.specs.Fresh.{is_taken}
+use Rattle.fresh_names.specs.Given.{stays_for}
 use Rattle.rename_map.specs.Fixed.{names_that_stay}
 use Rattle.new_names.specs.declared.class_names.ClassNames.{ClassNames}
 use Rattle.pair_clauses.specs.Finding.{first_place}
@@ -18,11 +21,11 @@ use Rattle.pair_clauses.specs.declared.place.Place.{Place}
 
 -- ---- which names are fixed
 
--- whether a name is fixed, of a class, of a field and of a method
+-- whether a name is fixed, of a class, of a field, and of a method with a descriptor
 pub record Fixed : Type 0 where
   pub class : List ℕ → Bool
   pub field : List ℕ → Bool
-  pub method : List ℕ → Bool
+  pub method : List ℕ → List ℕ → Bool
 
 -- without obfuscation each name is fixed, and else those are that stay by the rules over the whole input: the library's
 -- names of members, and those of initialisation methods, among them (ProGuard manual, "-keepnames", "-dontobfuscate")
@@ -30,7 +33,8 @@ abbrev pub fixed_by : Rules → List Class → Fixed
 fixed_by rules input = record {
   class = λ name. not rules.obfuscate || is_taken (names_that_stay rules input).classes name;
   field = λ name. not rules.obfuscate || is_taken (names_that_stay rules input).fields name;
-  method = λ name. not rules.obfuscate || is_taken (names_that_stay rules input).methods name;
+  method = λ descriptor name. not rules.obfuscate
+      || is_taken (stays_for (names_that_stay rules input).methods descriptor) name;
 }
 
 -- a name is among these; where none are given each one is
@@ -38,12 +42,17 @@ abbrev pub is_among : Option (List (List ℕ)) → List ℕ → Bool
 is_among None name = true
 is_among (Some names) name = is_taken names name
 
+-- the name of a method with a descriptor stays where these are fixed; where none are given each one does
+abbrev pub is_among_methods : Option (List MethodName) → List ℕ → List ℕ → Bool
+is_among_methods None descriptor name = true
+is_among_methods (Some methods) descriptor name = is_taken (stays_for methods descriptor) name
+
 -- these names are fixed, of each kind
-abbrev pub fixed_of : Option (List (List ℕ)) → Option (List (List ℕ)) → Option (List (List ℕ)) → Fixed
+abbrev pub fixed_of : Option (List (List ℕ)) → Option (List (List ℕ)) → Option (List MethodName) → Fixed
 fixed_of classes fields methods = record {
   class = is_among classes;
   field = is_among fields;
-  method = is_among methods;
+  method = is_among_methods methods;
 }
 
 -- ---- FixedName
@@ -62,9 +71,10 @@ module _ (is_fixed : List ℕ → Bool) where
   abbrev pub field_fault : Class → Field × Option (List ℕ) → Option Place
   field_fault c (f, new) = place_if (is_renamed f.name new) (place_of_field c f)
 
-  -- the same of a method
-  abbrev pub method_fault : Class → Method × Option (List ℕ) → Option Place
-  method_fault c (m, new) = place_if (is_renamed m.name new) (place_of_method c m)
+-- the same of a method, by what is fixed for its descriptor
+abbrev pub method_fault : (List ℕ → List ℕ → Bool) → Class → Method × Option (List ℕ) → Option Place
+method_fault is_fixed c (m, new) =
+    place_if (is_renamed (is_fixed (method_text m.ty)) m.name new) (place_of_method c m)
 
 -- a class, its fields and its methods: the first whose name isn't as it has to be
 abbrev pub fixed_in : Fixed → Class × ClassNames → Option Place

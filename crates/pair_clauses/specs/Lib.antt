@@ -2,6 +2,7 @@ pub mod Closing
 pub mod Codes
 pub mod Finding
 pub mod FixedNames
+pub mod LineRanges
 pub mod Members
 pub mod Places
 pub mod Shape

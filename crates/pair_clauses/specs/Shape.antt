@@ -1,6 +1,6 @@
 -- The clause MapShape: class lines are one to one between some classes of the input and all classes of the output, each
--- member line names another member of its class, and over the whole mapping names of fields, and names of methods, are
--- one to one (ProGuard manual, "ReTrace", the mapping file; the order of places is the project's own).
+-- member line names another member of its class, and over the whole mapping names of fields are one to one, and for each
+-- descriptor names of methods (ProGuard manual, "ReTrace", the mapping file; the order of places is the project's own).
 use Rattle.std.specs.Prelude.{ℕ, Bool, false, not, ◌||◌, List, [], ◌∷◌, ◌++◌, map, Option, Some, None, is_some}
 use Rattle.std.specs.List.{flat_map, list_any, position}
 use Rattle.std.specs.Map.{lookup}
@@ -14,7 +14,7 @@ use Rattle.mapping_file.specs.declared.mapping.MapClass.{MapClass}
 use Rattle.mapping_file.specs.declared.mapping.MapField.{MapField}
 use Rattle.mapping_file.specs.declared.mapping.MapMethod.{MapMethod}
 use Rattle.mapping_file.specs.declared.mapping.Mapping.{Mapping}
-use Rattle.new_names.specs.NewNames.{NameAndType, field_names, is_same, method_names}
+use Rattle.new_names.specs.NewNames.{NameAndType, field_names, is_same}
 use Rattle.pair_clauses.specs.Finding.{first_place}
 use Rattle.pair_clauses.specs.Places.{class_place, field_place, method_place, place_if}
 use Rattle.pair_clauses.specs.declared.place.Place.{Place}
@@ -34,15 +34,15 @@ abbrev pub has_member : List Class → List ℕ → NameAndType → Bool
 has_member classes class named =
     option_map_or (λ n. is_some (declared_at classes (Prog n) named.0 named.1)) (number_of classes class) false
 
--- another name than the one that is there, if one is
-abbrev pub is_other : Option (List ℕ) → List ℕ → Bool
-is_other None name = false
-is_other (Some there) name = not (is_text there name)
+-- another one than the one that is there, if one is, by a test of being the same
+abbrev pub is_other : {K : Type 0} → (K → K → Bool) → Option K → K → Bool
+is_other same None one = false
+is_other same (Some there) one = not (same there one)
 
--- an old name that has another new one among these, or a new one that has another old one
-abbrev pub clashes : List (List ℕ × List ℕ) → List ℕ → List ℕ → Bool
-clashes names old new = is_other (lookup (λ name. is_text name old) names) new
-    || is_other (lookup (λ name. is_text name new) (map (λ (p : List ℕ × List ℕ). (p.1, p.0)) names)) old
+-- an old one that has another new one among these, or a new one that has another old one
+abbrev pub clashes : {K : Type 0} → (K → K → Bool) → List (K × K) → K → K → Bool
+clashes {K} same pairs old new = is_other same (lookup (λ one. same one old) pairs) new
+    || is_other same (lookup (λ one. same one new) (map (λ (p : K × K). (p.1, p.0)) pairs)) old
 
 -- ---- lines of members
 
@@ -54,6 +54,14 @@ field_named l = (l.old, descriptor.field_text l.ty)
 abbrev pub method_named : MapMethod → NameAndType
 method_named l = (l.old, descriptor.method_text l.ty)
 
+-- the new name of a method's line, with the descriptor: names of methods are one to one for each descriptor
+abbrev pub method_renamed : MapMethod → NameAndType
+method_renamed l = (l.new, descriptor.method_text l.ty)
+
+-- the old and the new names of methods, with their descriptors
+abbrev pub method_pairs : List MapMethod → List (NameAndType × NameAndType)
+method_pairs lines = map (λ (l : MapMethod). (method_named l, method_renamed l)) lines
+
 -- a member that the class doesn't have, or one of these
 abbrev pub is_stray : List Class → List ℕ → List NameAndType → NameAndType → Bool
 is_stray input class own named = not (has_member input class named) || list_any (λ key. is_same key named) own
@@ -62,7 +70,7 @@ module _ (input : List Class) (class : List ℕ) where
   -- a field's line is at fault behind lines of fields: those of classes before, and those of its own class
   abbrev pub is_field_wrong : List (List ℕ × List ℕ) → List MapField → MapField → Bool
   is_field_wrong before own l = is_stray input class (map field_named own) (field_named l)
-      || clashes (before ++ field_names own) l.old l.new
+      || clashes is_text (before ++ field_names own) l.old l.new
 
   -- its place, where it is
   abbrev pub field_fault : List (List ℕ × List ℕ) → List MapField → MapField → Option Place
@@ -74,16 +82,16 @@ module _ (input : List Class) (class : List ℕ) where
   fields_fault before own (l ∷ ls) = option_or (field_fault before own l) (fields_fault before (own ++ l ∷ []) ls)
 
   -- a method's line is at fault, in the same way
-  abbrev pub is_method_wrong : List (List ℕ × List ℕ) → List MapMethod → MapMethod → Bool
+  abbrev pub is_method_wrong : List (NameAndType × NameAndType) → List MapMethod → MapMethod → Bool
   is_method_wrong before own l = is_stray input class (map method_named own) (method_named l)
-      || clashes (before ++ method_names own) l.old l.new
+      || clashes is_same (before ++ method_pairs own) (method_named l) (method_renamed l)
 
   -- its place, where it is
-  abbrev pub method_fault : List (List ℕ × List ℕ) → List MapMethod → MapMethod → Option Place
+  abbrev pub method_fault : List (NameAndType × NameAndType) → List MapMethod → MapMethod → Option Place
   method_fault before own l = place_if (is_method_wrong before own l) (method_place class l.ty l.old)
 
   -- the first of lines of methods that is at fault
-  abbrev pub methods_fault : List (List ℕ × List ℕ) → List MapMethod → List MapMethod → Option Place
+  abbrev pub methods_fault : List (NameAndType × NameAndType) → List MapMethod → List MapMethod → Option Place
   methods_fault before own [] = None
   methods_fault before own (l ∷ ls) = option_or (method_fault before own l) (methods_fault before (own ++ l ∷ []) ls)
 
@@ -104,7 +112,7 @@ module _ (input output : List Class) where
   abbrev pub line_fault : List MapClass → MapClass → Option Place
   line_fault before l = option_or (place_if (is_line_at_fault before l) (class_place l.old))
       (option_or (fields_fault input l.old (flat_map (λ (b : MapClass). field_names b.fields) before) [] l.fields)
-      (methods_fault input l.old (flat_map (λ (b : MapClass). method_names b.methods) before) [] l.methods))
+      (methods_fault input l.old (flat_map (λ (b : MapClass). method_pairs b.methods) before) [] l.methods))
 
   -- the first line at fault, by itself or with the lines before it
   abbrev pub lines_fault : List MapClass → List MapClass → Option Place

@@ -8,20 +8,24 @@ ghost use Rattle.class_pool.specs.Found.{package_of};
 ghost use Rattle.fresh_names.specs.Fresh.{is_taken};
 ghost use Rattle.rename_map.specs.Names.{AreFixed};
 ghost use Rattle.pair_clauses.specs.Finding.{first_place};
-ghost use Rattle.pair_clauses.specs.FixedNames.{field_fault, fixed_by, fixed_fault, fixed_in, is_among, is_moved};
+ghost use Rattle.jv_base.specs.Types as descriptor;
+ghost use Rattle.pair_clauses.specs.FixedNames.{field_fault, fixed_by, fixed_fault, fixed_in, is_among};
+ghost use Rattle.pair_clauses.specs.FixedNames.{is_among_methods, is_moved};
 ghost use Rattle.pair_clauses.specs.FixedNames.{is_misnamed, is_renamed, method_fault, moved_in, package_fault};
 ghost use Rattle.pair_clauses.specs.bodies.FixedKinds.{fixed_among, fixed_kinds};
 
 use crate::place::{Place, class_place, field_place, method_place};
-use class_model::Class;
+use crate::seen::name_and_type;
+use class_model::{Class, Method};
 use class_pool::ClassSet;
-use fresh_names::{TakenNames, TakenSet};
-use jv_base::{M, Name};
+use fresh_names::{TakenMethods, TakenNames, TakenSet};
+use jv_base::{M, Name, method_text};
 use new_names::ClassNames;
 use std::alloc::Global;
 
 /// The first place of FixedName, where these are the names that stay by the rules (`fixed_names` of `rename_map`): the
-/// first item that has a line with another name though its own is fixed, or with a fixed name that isn't its own.
+/// first item that has a line with another name though its own is fixed, or with a fixed name that isn't its own. Names
+/// of methods are fixed for their descriptors.
 pub fn fixed_fault(
     alloc: Global,
     fixed: &Option<TakenNames>,
@@ -39,7 +43,7 @@ pub fn fixed_fault(
 struct Kinds<'a> {
     classes: Option<&'a TakenSet>,
     fields: Option<&'a TakenSet>,
-    methods: Option<&'a TakenSet>,
+    methods: Option<&'a TakenMethods>,
 }
 
 fn kinds_of(fixed: &Option<TakenNames>) -> Kinds<'_>
@@ -115,12 +119,12 @@ fn fixed_field(
 
 fn fixed_method(
     alloc: Global,
-    fixed: Option<&TakenSet>,
+    fixed: Option<&TakenMethods>,
     class: &Class,
     names: &[Option<Name>],
 ) -> M<Option<Place>>
     ensures { IfOk result (λ found. found
-        ≡ first_place (method_fault (is_among (option_copied fixed.entry)) class.now)
+        ≡ first_place (method_fault (is_among_methods (option_copied fixed.entry)) class.now)
         (zip class.now.methods names.now)) }
 {
     for index in 0..class.methods.len() {
@@ -128,11 +132,52 @@ fn fixed_method(
             return Ok(None);
         };
         let method = &class.methods[index];
-        if is_renamed(fixed, &method.name, new) {
+        let is_wrong = is_method_renamed(alloc, fixed, method, new)?;
+        if is_wrong {
             return Ok(Some(method_place(alloc, &class.name, &method.ty, &method.name)?));
         }
     }
     Ok(None)
+}
+
+/// The same of a method, by what is fixed for its descriptor.
+fn is_method_renamed(
+    alloc: Global,
+    fixed: Option<&TakenMethods>,
+    method: &Method,
+    new: &Option<Name>,
+) -> M<bool>
+    ensures { IfOk result (λ is. is
+        ≡ is_renamed (is_among_methods (option_copied fixed.entry) (descriptor.method_text method.now.ty))
+        method.now.name new.now) }
+{
+    match new {
+        Some(new) => is_method_misnamed(alloc, fixed, method, new),
+        None => Ok(false),
+    }
+}
+
+fn is_method_misnamed(
+    alloc: Global,
+    fixed: Option<&TakenMethods>,
+    method: &Method,
+    new: &Name,
+) -> M<bool>
+    ensures { IfOk result (λ is. is
+        ≡ is_misnamed (is_among_methods (option_copied fixed.entry) (descriptor.method_text method.now.ty))
+        method.now.name new.now) }
+{
+    let Some(fixed) = fixed else {
+        return Ok(method.name != *new);
+    };
+    let ty = method_text(alloc, &method.ty)?;
+    let old = name_and_type(&method.name, &ty)?;
+    let named = name_and_type(new, &ty)?;
+    if fixed.has(&old) {
+        Ok(method.name != *new)
+    } else {
+        Ok(fixed.has(&named))
+    }
 }
 
 /// A fixed name has another new one, or another name has one that is fixed.

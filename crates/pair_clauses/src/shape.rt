@@ -3,18 +3,18 @@ ghost use Rattle.std.specs.Prelude.{◌≡◌, [], ◌∷◌, ◌++◌, ◌||◌
 ghost use Rattle.mapping_file.specs.declared.mapping.MapClass.{MapClass};
 ghost use Rattle.mapping_file.specs.declared.mapping.MapField.{MapField};
 ghost use Rattle.mapping_file.specs.declared.mapping.MapMethod.{MapMethod};
-ghost use Rattle.new_names.specs.NewNames.{NameAndType, field_names, method_names};
+ghost use Rattle.new_names.specs.NewNames.{NameAndType, field_names};
 ghost use Rattle.pair_clauses.specs.Finding.{first_place};
 ghost use Rattle.pair_clauses.specs.Shape.{field_named, fields_fault, has_class, has_member, is_field_wrong};
 ghost use Rattle.pair_clauses.specs.Shape.{is_line_at_fault};
-ghost use Rattle.pair_clauses.specs.Shape.{is_method_wrong, is_stray, line_fault, lines_fault, method_named};
+ghost use Rattle.pair_clauses.specs.Shape.{is_method_wrong, is_stray, line_fault, lines_fault, method_named, method_pairs};
 ghost use Rattle.pair_clauses.specs.Shape.{methods_fault, shape_fault};
 ghost use Rattle.pair_clauses.specs.Shape.{unlined_fault};
 ghost use Rattle.pair_clauses.specs.bodies.Lines.{HasLines, SeenFields, SeenMethods};
-ghost use Rattle.pair_clauses.specs.bodies.Seen.{HasMembers, HasNames, TellsPairs};
+ghost use Rattle.pair_clauses.specs.bodies.Seen.{HasMembers, HasNames, TellsMethods, TellsPairs};
 
 use crate::place::{Place, class_place, field_place, method_place};
-use crate::seen::{SeenMembers, SeenNames, SeenPairs};
+use crate::seen::{SeenMembers, SeenMethodPairs, SeenNames, SeenPairs, name_and_type};
 use class_pool::{ClassId, ClassSet};
 use jv_base::{M, Name, Text, field_text, method_text};
 use mapping_file::{MapClass, MapField, MapMethod, Mapping};
@@ -26,7 +26,7 @@ pub(crate) struct SeenLines {
     old_classes: SeenNames,
     new_classes: SeenNames,
     fields: SeenPairs,
-    methods: SeenPairs,
+    methods: SeenMethodPairs,
 }
 
 /// The first place of MapShape.
@@ -42,7 +42,7 @@ pub fn shape_fault(
         old_classes: SeenNames::new(alloc),
         new_classes: SeenNames::new(alloc),
         fields: SeenPairs::new(alloc),
-        methods: SeenPairs::new(alloc),
+        methods: SeenMethodPairs::new(alloc),
     };
     let found = lines_fault(alloc, input, output, &mut seen, mapping.classes.as_slice())?;
     if found.is_some() {
@@ -238,13 +238,13 @@ fn methods_fault(
     alloc: Global,
     input: &ClassSet,
     class: &Name,
-    seen: &mut SeenPairs,
+    seen: &mut SeenMethodPairs,
     lines: &[MapMethod],
 ) -> M<Option<Place>>
-    ensures found { (before : List (List ℕ × List ℕ)) → TellsPairs seen.old before
+    ensures found { (before : List (NameAndType × NameAndType)) → TellsMethods seen.old before
         → IfOk result (λ found. found ≡ methods_fault input.now class.now before [] lines.now) }
-    ensures seen { (before : List (List ℕ × List ℕ)) → TellsPairs seen.old before
-        → IfOk result (λ found. found ≡ None → TellsPairs seen.new (before ++ method_names lines.now)) }
+    ensures seen { (before : List (NameAndType × NameAndType)) → TellsMethods seen.old before
+        → IfOk result (λ found. found ≡ None → TellsMethods seen.new (before ++ method_pairs lines.now)) }
 {
     let mut own = SeenMembers::new(alloc);
     for line in lines {
@@ -259,21 +259,26 @@ fn is_method_at_fault(
     alloc: Global,
     input: &ClassSet,
     class: &Name,
-    seen: &mut SeenPairs,
+    seen: &mut SeenMethodPairs,
     own: &mut SeenMembers,
     line: &MapMethod,
 ) -> M<bool>
-    ensures wrong { (before : List (List ℕ × List ℕ)) (lines : List MapMethod)
-        → TellsPairs seen.old (before ++ method_names lines) → HasMembers own.old (map method_named lines)
+    ensures wrong { (before : List (NameAndType × NameAndType)) (lines : List MapMethod)
+        → TellsMethods seen.old (before ++ method_pairs lines) → HasMembers own.old (map method_named lines)
         → IfOk result (λ wrong. wrong ≡ is_method_wrong input.now class.now before lines line.now) }
-    ensures seen { (before : List (List ℕ × List ℕ)) (lines : List MapMethod)
-        → TellsPairs seen.old (before ++ method_names lines) → HasMembers own.old (map method_named lines)
+    ensures seen { (before : List (NameAndType × NameAndType)) (lines : List MapMethod)
+        → TellsMethods seen.old (before ++ method_pairs lines) → HasMembers own.old (map method_named lines)
         → IfOk result (λ wrong. wrong ≡ false → SeenMethods seen.new own.new before (lines ++ line.now ∷ [])) }
 {
     let ty = method_text(alloc, &line.ty)?;
-    if is_stray(input, class, own, &line.old, &ty)? || seen.clashes(&line.old, &line.new) {
+    if is_stray(input, class, own, &line.old, &ty)? {
         return Ok(true);
     }
-    seen.put(&line.old, &line.new)?;
+    let old = name_and_type(&line.old, &ty)?;
+    let new = name_and_type(&line.new, &ty)?;
+    if seen.clashes(&old, &new) {
+        return Ok(true);
+    }
+    seen.put(&old, &new)?;
     Ok(false)
 }

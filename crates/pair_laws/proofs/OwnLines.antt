@@ -5,4 +5,5 @@ pub mod Closing
 pub mod Fixed
 pub mod Found
 pub mod Members
+pub mod Ranges
 pub mod Whole

@@ -30,7 +30,7 @@ use Rattle.pair_rows.specs.Rows.{WitnessStrayRow}
 use Rattle.pair_rows.proofs.Alike.{codes_alike, g_hidden, g_longer, members_alike, members_alike_longer}
 use Rattle.pair_rows.proofs.Edits.{g_dropped, g_kept, nothing_edited}
 use Rattle.pair_rows.proofs.Files.{cut_unread, orphan_spelled}
-use Rattle.pair_rows.proofs.Names.{b_gone, f_renamed, k_stray, names_stay, names_stay_moved, names_stay_without_f}
+use Rattle.pair_rows.proofs.Names.{b_gone, f_renamed, k_stray, names_stay, names_stay_moved, names_stay_without_f, no_line_told}
 use Rattle.pair_rows.proofs.Names.{names_stay_without_g, packages_stay, packages_stay_without_f}
 use Rattle.pair_rows.proofs.Names.{packages_stay_without_g, shaped, shaped_hidden, shaped_longer, shaped_moved}
 use Rattle.pair_rows.proofs.Names.{shaped_renamed, shaped_without_f, shaped_without_g}
@@ -52,6 +52,7 @@ none clause.MemberDiffers = members_alike
 none clause.WitnessStray = refl
 none clause.EditIllegal = nothing_edited
 none clause.CodeDiffers = codes_alike
+none clause.LineRange = no_line_told
 
 pub taken : TakenRow
 taken = record { output = output; accepted = accepted; none = none }
@@ -211,7 +212,7 @@ before_code_differs clause.NotClosed lt = closed
 before_code_differs clause.MemberDiffers lt = members_alike_longer
 before_code_differs clause.WitnessStray lt = refl
 before_code_differs clause.EditIllegal lt = nothing_edited
-before_code_differs clause.CodeDiffers lt = absurd (omega (arith, lt))
+before_code_differs c lt = absurd (omega (arith, lt))
 
 first_code_differs : IsFirst input output_longer mapping rules unedited clause.CodeDiffers method_g
 first_code_differs = record { holds = g_longer; before = before_code_differs }

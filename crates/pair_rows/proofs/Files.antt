@@ -30,7 +30,7 @@ use Rattle.class_laws.proofs.ClassLaw.{class_read-found}
 use Rattle.class_laws.specs.ReadingLaws.{AreBytes}
 use Rattle.pair_rows.specs.Examples.{b_hidden, b_longer, b_moved, cut_file, file_of_a, file_of_a_moved, file_of_b}
 use Rattle.pair_rows.specs.Examples.{file_of_b_hidden, file_of_b_longer, file_of_b_moved, file_of_old_a, file_of_old_b}
-use Rattle.pair_rows.specs.Examples.{file_of_orphan, new_a, new_b, old_a, old_b, orphan}
+use Rattle.pair_rows.specs.Examples.{file_of_lined, file_of_orphan, lined, new_a, new_b, old_a, old_b, orphan}
 
 -- ---- bytes
 
@@ -56,6 +56,7 @@ record AreRead : Type 0 where
   b_hidden : class_read file_of_b_hidden.bytes ≡ Ok b_hidden
   b_longer : class_read file_of_b_longer.bytes ≡ Ok b_longer
   orphan : class_read file_of_orphan.bytes ≡ Ok orphan
+  lined : class_read file_of_lined.bytes ≡ Ok lined
   cut : class_read cut_file.bytes ≡ Err (fault 2 Cut)
 
 are_read : AreRead
@@ -77,6 +78,7 @@ are_read = record {
   b_hidden = refl;
   b_longer = refl;
   orphan = refl;
+  lined = refl;
   cut = refl;
 }
 
@@ -109,6 +111,9 @@ b_longer_spelled =
 
 pub orphan_spelled : File file_of_orphan.bytes orphan
 orphan_spelled = class_read-found file_of_orphan.bytes orphan (are_bytes file_of_orphan.bytes refl) are_read.orphan
+
+pub lined_spelled : File file_of_lined.bytes lined
+lined_spelled = class_read-found file_of_lined.bytes lined (are_bytes file_of_lined.bytes refl) are_read.lined
 
 pub cut_unread : class_read cut_file.bytes ≡ Err (fault 2 Cut)
 cut_unread = are_read.cut

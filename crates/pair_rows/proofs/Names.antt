@@ -11,6 +11,7 @@ use Rattle.keep_match.specs.TypePatterns.{match_each, matches_element, matches_r
 use Rattle.keep_match.specs.Wildcards.{is_cut, pieces, wild, wild_class}
 use Rattle.fresh_names.specs.Reserved.{library_names, type_words}
 use Rattle.pair_clauses.specs.FixedNames.{fixed_by, fixed_fault, package_fault}
+use Rattle.pair_clauses.specs.LineRanges.{range_fault}
 use Rattle.pair_clauses.specs.Shape.{shape_fault}
 use Rattle.pair_checker.specs.Clauses.{given_names}
 use Rattle.pair_rows.specs.Examples.{input, kept_renamed, mapping, moved, needed_lost, output, output_hidden}
@@ -82,6 +83,12 @@ unfolding field_text base_text method_text result_text word_text external_text l
     wild_class accepts flags_met is_kind_met matches_class matches_method matches_result matches_type matches_element
     without_pairs match_each fixes_class type_words library_names
 names_stay_without_g = refl
+
+-- ---- LineRange
+
+pub no_line_told : None ≡ range_fault mapping input (given_names mapping input) output
+unfolding field_text base_text method_text result_text word_text external_text
+no_line_told = refl
 
 -- ---- Package
 

@@ -28,11 +28,11 @@ use Rattle.type_verifier.specs.Rules.{rule_of}
 use Rattle.type_verifier.specs.bodies.FirstFaults.{fault_of_set}
 use Rattle.type_verifier.specs.bodies.Walked.{walked as code_walked}
 use Rattle.pair_rows.specs.Examples.{b_hidden, b_longer, b_moved, file_of_a, file_of_a_moved, file_of_b, file_of_old_a}
-use Rattle.pair_rows.specs.Examples.{file_of_old_b, input, old_a, old_b}
+use Rattle.pair_rows.specs.Examples.{file_of_lined, file_of_old_b, input, lined, old_a, old_b}
 use Rattle.pair_rows.specs.Examples.{file_of_b_hidden, file_of_b_longer, file_of_b_moved, new_a, new_b, orphan, output}
 use Rattle.pair_rows.specs.Examples.{output_hidden, output_longer, output_moved}
 use Rattle.pair_rows.proofs.Files.{a_moved_spelled, a_spelled, b_hidden_spelled, b_longer_spelled, b_moved_spelled}
-use Rattle.pair_rows.proofs.Files.{b_spelled, old_a_spelled, old_b_spelled}
+use Rattle.pair_rows.proofs.Files.{b_spelled, lined_spelled, old_a_spelled, old_b_spelled}
 
 -- ---- what stands above two classes is of the library
 
@@ -58,7 +58,12 @@ acyclic c d above_c above_d (suc zero) lt cyclic = no_number
     (cyclic (lifted (λ n. false)) (subst (All of_library) (sym above_d) only_object) (library_closed (c ∷ d ∷ [])))
 acyclic c d above_c above_d (suc (suc n)) lt cyclic = absurd (omega (arith, lt))
 
--- ---- sets of two classes
+acyclic_one : (c : Class) → direct (c ∷ []) (Prog 0) ≡ Lib 0 ∷ [] → NoCycle (c ∷ [])
+acyclic_one c above zero lt cyclic = no_number
+    (cyclic (lifted (λ n. false)) (subst (All of_library) (sym above) only_object) (library_closed (c ∷ [])))
+acyclic_one c above (suc n) lt cyclic = absurd (omega (arith, lt))
+
+-- ---- sets of two classes, and of one
 
 abbrev named : FileAt → Class → NamedClass
 named f c = record { path = f.path; class = c }
@@ -110,6 +115,20 @@ unfolding library upwards walked method_text result_text field_text base_text gr
     is_primitive_or_void part_after
 longer_accepted = two_accepted file_of_a file_of_b_longer (new_a (codes "p/a")) b_longer
     a_spelled b_longer_spelled refl refl refl refl refl
+
+pub lined_accepted : IsAccepted (file_of_lined ∷ []) (lined ∷ [])
+unfolding library upwards walked method_text result_text field_text base_text grown read_field read_method walk least
+    is_assignable is_java_assignable rule_of code_walked words_of argument_words is_class_name is_member_name is_name_byte
+    is_primitive_or_void part_after
+lined_accepted = record {
+  named = named file_of_lined lined ∷ [];
+  read = ((refl, lined_spelled), tt);
+  are = refl;
+  first = refl;
+  acyclic = acyclic_one lined refl;
+  linked = refl;
+  typed = set_typed (lined ∷ []) refl;
+}
 
 pub orphan_missing : first_faults (record { path = codes "p/A.class"; class = orphan } ∷ [])
     ≡ Err (record { class = codes "p/A"; kind = SuperMissing })

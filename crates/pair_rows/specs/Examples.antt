@@ -99,6 +99,7 @@ rules = record {
   mapping = codes "map";
   seeds = None;
   usage = None;
+  apply = None;
   shrink = true;
   optimise = false;
   obfuscate = true;
@@ -214,6 +215,29 @@ output_longer = new_a (codes "p/a") ∷ b_longer ∷ []
 abbrev pub orphan : Class
 orphan = plain_class 0x0021 (codes "p/A") (codes "p/B") [] [] []
 
+-- ---- a class whose code has a line
+
+-- LineRange: rules that keep each name and each attribute
+abbrev pub plain_rules : Rules
+plain_rules = record rules { obfuscate = false }
+
+-- p.A { void f() { } }, whose instruction has line 3
+abbrev pub lined : Class
+lined = class (codes "p/A") (made_method 0x0009 (codes "f") [] None [] (Some (record {
+  max_stack = 0;
+  max_locals = 0;
+  ins = record { op = op.Return None; line = Some 3 } ∷ [];
+  handlers = [];
+  frames = [];
+})) ∷ [])
+
+-- f has lines 1 and 2
+abbrev pub other_lines : Mapping
+other_lines = record {
+  classes = class_line (codes "p/A") (codes "p/A")
+      (record (line_of_f (codes "f")) { lines = Some (record { first = 1; last = 2 }) } ∷ []) ∷ [];
+}
+
 -- ---- files, in hexadecimal digits
 
 -- a file with its path
@@ -291,6 +315,13 @@ file_of_b_longer = file (codes "p/a.class")
 abbrev pub file_of_orphan : FileAt
 file_of_orphan = file (codes "p/A.class")
     (hex (codes "CAFEBABE000000340005010003702F41070001010003702F420700030021000200040000000000000000"))
+
+-- that of the class whose code has a line
+abbrev pub file_of_lined : FileAt
+file_of_lined = file (codes "p/A.class")
+    (hex (codes "CAFEBABE000000340009010003702F410700010100106A6176612F6C616E672F4F626A65637407000301000166010003")
+    ++ (hex (codes "282956010004436F646501000F4C696E654E756D6265725461626C650021000200040000000000010009000500060001")
+    ++ (hex (codes "0007000000190000000000000001B1000000010008000000060001000000030000"))))
 
 -- OutputFormat: one of two bytes
 abbrev pub cut_file : FileAt

@@ -11,7 +11,7 @@ use Rattle.pair_checker.specs.PairOk.{IsNo, PairOk}
 use Rattle.pair_checker.specs.declared.answer.Clause.{Clause}
 use Rattle.pair_checker.specs.declared.answer.Clause.TheVariants as clause
 use Rattle.pair_rows.specs.Examples.{cut_file, dropped, edited, file_of_a, file_of_a_moved, file_of_b_hidden}
-use Rattle.pair_rows.specs.Examples.{file_of_b_longer}
+use Rattle.pair_rows.specs.Examples.{file_of_b_longer, file_of_lined, lined, other_lines, plain_rules}
 use Rattle.pair_rows.specs.Examples.{file_of_b_moved, file_of_orphan, files, input, input_files, kept_renamed, mapping}
 use Rattle.pair_rows.specs.Examples.{moved, needed_lost, output, rules, seed_lost, stray_line, unedited}
 
@@ -92,3 +92,8 @@ EditIllegalRow = Refuses files mapping dropped clause.EditIllegal (Some (codes "
 abbrev pub CodeDiffersRow : Type 0
 CodeDiffersRow = Refuses (file_of_a ∷ file_of_b_longer ∷ []) mapping unedited clause.CodeDiffers
     (Some (codes "p.B")) (Some (codes "int g()"))
+
+-- by rules that keep names and lines the code of f has line 3, which isn't among the lines that are told of it
+abbrev pub LineRangeRow : Type 0
+LineRangeRow = IsNo (lined ∷ []) (file_of_lined ∷ []) other_lines plain_rules unedited
+    (record { clause = clause.LineRange; class = Some (codes "p.A"); member = Some (codes "void f()") })

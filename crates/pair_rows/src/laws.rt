@@ -2,7 +2,7 @@
 //
 // Each clause is computed from the definitions. The pairs are written out in specs/Examples.antt.
 ghost use Rattle.pair_rows.specs.Rows.{CodeDiffersRow, EditIllegalRow, FixedNameRow, InputRow, MapShapeRow};
-ghost use Rattle.pair_rows.specs.Rows.{MemberDiffersRow, NoneRow, NotClosedRow, OutputFormatRow, OutputProfileRow};
+ghost use Rattle.pair_rows.specs.Rows.{LineRangeRow, MemberDiffersRow, NoneRow, NotClosedRow, OutputFormatRow, OutputProfileRow};
 ghost use Rattle.pair_rows.specs.Rows.{PackageRow, RequiredRow, SeedLostRow, TakenRow, WitnessStrayRow};
 
 /// Carries what the definition of a pair gives for small ones, files and all: an input is a set
@@ -24,4 +24,5 @@ pub fn computed_pairs()
     ensures witness_stray { WitnessStrayRow }
     ensures edit_illegal { EditIllegalRow }
     ensures code_differs { CodeDiffersRow }
+    ensures line_range { LineRangeRow }
 {}

@@ -10,6 +10,7 @@ use class_model::{Class, WriteLimit};
 use fresh_names::TakenNames;
 use jv_base::{Items, Or};
 use keep_rules::Rules;
+use mapping_file::Mapping;
 use mark_words::Marked;
 use set_shrink::ShrunkSet;
 use std::alloc::Global;
@@ -24,12 +25,13 @@ pub fn shrink_classes<Rt: Threads + Sync>(
     fixed: &Option<TakenNames>,
     marked: &Marked,
     rules: &Rules,
+    old: &Option<Mapping>,
 ) -> Result<ShrunkSet, Or<WriteLimit>>
     requires few { item_count classes < 4294967295 }
     requires marks { length marked.now ≡ item_count classes }
     requires fixed { AreFixed rules.now classes fixed.now }
-    requires writable { AllByRecursion IsWritable (renamed_of classes marked.now rules.now) }
-    ensures exact { Shrinks result classes marked.now rules.now }
+    requires writable { AllByRecursion IsWritable (renamed_of classes marked.now rules.now old.now) }
+    ensures exact { Shrinks result classes marked.now rules.now old.now }
 {
-    set_shrink::shrink_classes(rt, workers, alloc, classes, fixed, marked, rules)
+    set_shrink::shrink_classes(rt, workers, alloc, classes, fixed, marked, rules, old)
 }

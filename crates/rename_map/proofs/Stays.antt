@@ -10,7 +10,8 @@ use Rattle.fresh_names.specs.Reserved.{reserved}
 use Rattle.fresh_names.specs.declared.taken.Named.TheVariants as named
 use Rattle.fresh_names.proofs.Reserved.{taken_parts}
 use Rattle.rename_map.specs.declared.gathering.Chosen.TheVariants as choose
-use Rattle.rename_map.specs.Fixed.{names_that_stay, of_each}
+use Rattle.fresh_names.specs.Given.{of_type, stays_for}
+use Rattle.rename_map.specs.Fixed.{methods_of_each, names_that_stay, of_each}
 
 behind : (front names : List (List ℕ)) (a : List ℕ) → is_taken names a ≡ true → is_taken (front ++ names) a ≡ true
 behind front names a h = taken_parts front names a ∙ or_right (is_taken front a) (is_taken names a) h
@@ -23,6 +24,7 @@ reserved_class_stays rules classes a h =
     behind own (described ++ reserved named.Class) a (behind described (reserved named.Class) a h)
 
 pub reserved_method_stays : (rules : Rules) (classes : List Class) (a : List ℕ)
-    → is_taken (reserved named.Method) a ≡ true → is_taken (names_that_stay rules classes).methods a ≡ true
-reserved_method_stays rules classes a h =
-    behind (of_each choose.Methods (fixed_rows fixes.Members rules classes) classes) (reserved named.Method) a h
+    → is_taken (reserved named.Method) a ≡ true → (d : List ℕ)
+    → is_taken (stays_for (names_that_stay rules classes).methods d) a ≡ true
+reserved_method_stays rules classes a h d =
+    behind (of_type d (methods_of_each (fixed_rows fixes.Members rules classes) classes)) (reserved named.Method) a h

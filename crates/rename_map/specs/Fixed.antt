@@ -1,14 +1,16 @@
 -- Names that stay by rules (ProGuard manual, "Keep Options", "-keepnames", "includedescriptorclasses").
-use Rattle.std.specs.Prelude.{ℕ, ◌+◌, Bool, List, [], ◌∷◌, ◌++◌, length, Option, Some, None}
+use Rattle.std.specs.Prelude.{ℕ, ◌+◌, Bool, List, [], ◌∷◌, ◌++◌, length, map, Option, Some, None}
 use Rattle.std.specs.Prelude.{if◌then◌else◌, slice_index_or}
 use Rattle.std.specs.List.{enumerate_from, flat_map}
 use Rattle.jv_base.specs.declared.types.Base.{Base}
 use Rattle.jv_base.specs.declared.types.Base.TheVariants as base
 use Rattle.jv_base.specs.declared.types.FieldType.{FieldType}
 use Rattle.jv_base.specs.declared.types.MethodType.{MethodType}
+use Rattle.jv_base.specs.Types.{method_text}
 use Rattle.class_model.specs.declared.class.Class.{Class}
 use Rattle.class_model.specs.declared.class.Field.{Field}
 use Rattle.class_model.specs.declared.class.Method.{Method}
+use Rattle.class_rename.specs.Names.{MethodName}
 use Rattle.keep_rules.specs.declared.rules.Rules.{Rules}
 use Rattle.keep_match.specs.Fixed.{fixed_rows}
 use Rattle.keep_match.specs.declared.fixed.Fixes.TheVariants as fixes
@@ -68,28 +70,38 @@ abbrev pub marked : Chosen → List Bool → Class → List (List ℕ)
 marked choose.Class marks c = class_marked marks c
 marked choose.Described marks c = fields_marked told.Classes marks c ++ methods_marked told.Classes marks c
 marked choose.Fields marks c = fields_marked told.Names marks c
-marked choose.Methods marks c = methods_marked told.Names marks c
 
 -- the same of all classes, with a list of marks for each
 abbrev pub of_each : Chosen → List (List Bool) → List Class → List (List ℕ)
 of_each what rows classes =
     flat_map (λ (e : ℕ × Class). marked what (slice_index_or rows e.0 []) e.1) (enumerate_from 0 classes)
 
+-- the names and descriptors of marked methods of a class (JVMS 4.6)
+abbrev pub named_marked : List Bool → Class → List MethodName
+named_marked marks c = map (λ (m : Method). (m.name, method_text m.ty)) (chosen marks (1 + length c.fields) c.methods)
+
+-- those of all classes
+abbrev pub methods_of_each : List (List Bool) → List Class → List MethodName
+methods_of_each rows classes =
+    flat_map (λ (e : ℕ × Class). named_marked (slice_index_or rows e.0 []) e.1) (enumerate_from 0 classes)
+
 -- ---- names that stay
 
--- names that stay and that nothing else gets, of classes, fields and methods, in any order
+-- names that stay and that nothing else gets: of classes, of fields, and of methods by their names and descriptors, in
+-- any order
 pub record Stay : Type 0 where
   pub classes : List (List ℕ)
   pub fields : List (List ℕ)
-  pub methods : List (List ℕ)
+  pub methods : List MethodName
 
--- what rules match keeps its name, and so do members of its name; and with includedescriptorclasses the classes in the
--- descriptors of members that are matched; reserved names stay in any case (ProGuard manual, "-keepnames",
--- "-keepclassmembernames", "includedescriptorclasses"; that all members of a name stay is the project's own)
+-- what rules match keeps its name, and so do fields of its name, and methods of its name and descriptor; and with
+-- includedescriptorclasses the classes in the descriptors of members that are matched; reserved names stay in any case
+-- (ProGuard manual, "-keepnames", "-keepclassmembernames", "includedescriptorclasses"; that all of a name stay is the
+-- project's own)
 abbrev pub names_that_stay : Rules → List Class → Stay
 names_that_stay rules classes = record {
   classes = of_each choose.Class (fixed_rows fixes.Classes rules classes) classes
       ++ (of_each choose.Described (fixed_rows fixes.DescriptorClasses rules classes) classes ++ reserved named.Class);
   fields = of_each choose.Fields (fixed_rows fixes.Members rules classes) classes ++ reserved named.Field;
-  methods = of_each choose.Methods (fixed_rows fixes.Members rules classes) classes ++ reserved named.Method;
+  methods = methods_of_each (fixed_rows fixes.Members rules classes) classes;
 }

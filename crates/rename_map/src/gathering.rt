@@ -2,6 +2,7 @@
 ghost use Rattle.std.specs.Prelude.{◌≡◌, ◌+◌, ◌<◌, ℕ, List, [], ◌∷◌, ◌++◌, IfOk, OnOk, length, slice_index_or};
 ghost use Rattle.std.specs.Prelude.{if◌then◌else◌};
 ghost use Rattle.std.specs.List.{flat_map};
+ghost use Rattle.jv_base.specs.Names.{is_text};
 ghost use Rattle.member_shrink.specs.Shrunk.{chosen, is_marked};
 ghost use Rattle.rename_map.specs.Fixed.{class_marked, marked, of_each};
 ghost use Rattle.rename_map.specs.bodies.Adding.{Adds};
@@ -12,14 +13,13 @@ use class_pool::ClassSet;
 use jv_base::{Items, M, Name};
 use key_table::KeySet;
 
-/// What marks of a class and its members choose: the name of the class, the classes in the descriptors of members, the
-/// names of fields or those of methods.
+/// What marks of a class and its members choose: the name of the class, the classes in the descriptors of members, or
+/// the names of fields.
 #[derive(Clone, Copy)]
 pub(crate) enum Chosen {
     Class,
     Described,
     Fields,
-    Methods,
 }
 
 /// Adds what the marks of each class choose.
@@ -29,7 +29,7 @@ pub(crate) fn gather(
     what: Chosen,
     names: &mut KeySet<Name>,
 ) -> M<()>
-    ensures { OnOk result (Adds names.old (of_each what rows.now input.now) names.new) }
+    ensures { OnOk result (Adds is_text names.old (of_each what rows.now input.now) names.new) }
 {
     for number in 0..input.len() {
         add_marked(names, what, row_of(rows, number), input.class(number))?;
@@ -38,7 +38,7 @@ pub(crate) fn gather(
 }
 
 /// The marks of a class.
-fn row_of(rows: &[Items<bool>], number: u32) -> &[bool]
+pub(crate) fn row_of(rows: &[Items<bool>], number: u32) -> &[bool]
     ensures { result.now ≡ slice_index_or rows.now number [] }
 {
     match rows.get(number as usize) {
@@ -51,7 +51,7 @@ fn row_of(rows: &[Items<bool>], number: u32) -> &[bool]
 #[tactic(auto, using(crate::proofs::Added::adds_both))]
 fn add_marked(names: &mut KeySet<Name>, what: Chosen, row: &[bool], class: &Class) -> M<()>
     requires { length class.now.fields + length class.now.methods < 4294967295 }
-    ensures { OnOk result (Adds names.old (marked what row.now class.now) names.new) }
+    ensures { OnOk result (Adds is_text names.old (marked what row.now class.now) names.new) }
 {
     let fields = class.fields.as_slice();
     let methods = class.methods.as_slice();
@@ -63,14 +63,13 @@ fn add_marked(names: &mut KeySet<Name>, what: Chosen, row: &[bool], class: &Clas
             add_chosen(names, Told::Classes, row, behind, methods)
         }
         Chosen::Fields => add_chosen(names, Told::Names, row, 1, fields),
-        Chosen::Methods => add_chosen(names, Told::Names, row, behind, methods),
     }
 }
 
 /// Adds the name of a class, if it is marked.
 #[tactic(auto, using(crate::proofs::Added::adds_none))]
 fn add_class(names: &mut KeySet<Name>, row: &[bool], class: &Class) -> M<()>
-    ensures { OnOk result (Adds names.old (class_marked row.now class.now) names.new) }
+    ensures { OnOk result (Adds is_text names.old (class_marked row.now class.now) names.new) }
 {
     if is_marked(row, 0) {
         add_name(names, &class.name)
@@ -80,7 +79,7 @@ fn add_class(names: &mut KeySet<Name>, row: &[bool], class: &Class) -> M<()>
 }
 
 /// Whether an item is marked.
-fn is_marked(row: &[bool], item: usize) -> bool
+pub(crate) fn is_marked(row: &[bool], item: usize) -> bool
     ensures { result ≡ is_marked row.now item }
 {
     match row.get(item) {
@@ -98,7 +97,7 @@ fn add_chosen<T: Tells>(
     members: &[T],
 ) -> M<()>
     requires { first + length members.now < 4294967296 }
-    ensures { OnOk result (Adds names.old (flat_map (T.tells told) (chosen row.now first members.now))
+    ensures { OnOk result (Adds is_text names.old (flat_map (T.tells told) (chosen row.now first members.now))
         names.new) }
 {
     let mut item = first;
@@ -113,7 +112,7 @@ fn add_chosen<T: Tells>(
 /// Adds what a member tells, if it is chosen.
 #[tactic(auto, using(crate::proofs::Added::adds_none))]
 fn add_if<T: Tells>(names: &mut KeySet<Name>, told: Told, member: &T, is_chosen: bool) -> M<()>
-    ensures { OnOk result (Adds names.old (if is_chosen then T.tells told member.now else []) names.new) }
+    ensures { OnOk result (Adds is_text names.old (if is_chosen then T.tells told member.now else []) names.new) }
 {
     if is_chosen {
         member.add_told(told, names)

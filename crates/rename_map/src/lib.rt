@@ -4,6 +4,7 @@
 mod fixed;
 mod gathering;
 mod mapping;
+mod methods;
 mod naming;
 mod telling;
 

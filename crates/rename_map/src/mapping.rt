@@ -89,7 +89,7 @@ fn method_line(alloc: Global, names: &NewNames, method: &Method, lines: bool) ->
     let lines = range_of(&method.code, lines);
     let ty = type_copy(alloc, &method.ty)?;
     let old = method.name.clone()?;
-    let new = names.method_of_type(&method.name, &method.ty)?;
+    let new = names.method_of_type(alloc, &method.name, &method.ty)?;
     Ok(MapMethod {
         lines,
         ty,

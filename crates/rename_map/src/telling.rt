@@ -1,6 +1,7 @@
 // The names that members and types have.
 ghost use Rattle.std.specs.Prelude.{◌≡◌, ℕ, List, [], ◌∷◌, ◌++◌, IfOk, OnOk, not};
 ghost use Rattle.std.specs.List.{flat_map};
+ghost use Rattle.jv_base.specs.Names.{is_text};
 ghost use Rattle.fresh_names.specs.Fresh.{is_taken};
 ghost use Rattle.rename_map.specs.Fixed.{field_tells, method_tells, method_type_classes, result_classes, type_classes};
 ghost use Rattle.rename_map.specs.bodies.Adding.{Adds};
@@ -19,6 +20,7 @@ pub(crate) enum Told {
 /// A member with a name and a descriptor.
 pub(crate) trait Tells {
     ghost use Rattle.std.specs.Prelude.{ℕ, List, OnOk};
+    ghost use Rattle.jv_base.specs.Names.{is_text};
     ghost use Rattle.rename_map.specs.declared.telling.Told.{Told};
     ghost use Rattle.rename_map.specs.bodies.Adding.{Adds};
 
@@ -26,7 +28,7 @@ pub(crate) trait Tells {
 
     /// Adds the names that it tells.
     fn add_told(&self, told: Told, names: &mut KeySet<Name>) -> M<()>
-        ensures { OnOk result (Adds names.old (tells told self.now) names.new) };
+        ensures { OnOk result (Adds is_text names.old (tells told self.now) names.new) };
 }
 
 impl Tells for Field {
@@ -54,7 +56,7 @@ impl Tells for Method {
 /// Adds a name.
 #[tactic(auto, using(crate::proofs::Added::adds_one))]
 pub(crate) fn add_name(names: &mut KeySet<Name>, name: &Name) -> M<()>
-    ensures { OnOk result (Adds names.old (name.now ∷ []) names.new) }
+    ensures { OnOk result (Adds is_text names.old (name.now ∷ []) names.new) }
 {
     if names.has(name) {
         return Ok(());
@@ -67,7 +69,7 @@ pub(crate) fn add_name(names: &mut KeySet<Name>, name: &Name) -> M<()>
 /// Adds the class of a type.
 #[tactic(auto, using(crate::proofs::Added::adds_none))]
 fn add_type(names: &mut KeySet<Name>, ty: &FieldType) -> M<()>
-    ensures { OnOk result (Adds names.old (type_classes ty.now) names.new) }
+    ensures { OnOk result (Adds is_text names.old (type_classes ty.now) names.new) }
 {
     match &ty.base {
         Base::Class(name) => add_name(names, name),
@@ -77,14 +79,14 @@ fn add_type(names: &mut KeySet<Name>, ty: &FieldType) -> M<()>
 
 #[tactic(auto, using(crate::proofs::Added::adds_both))]
 fn add_method_type(names: &mut KeySet<Name>, ty: &MethodType) -> M<()>
-    ensures { OnOk result (Adds names.old (method_type_classes ty.now) names.new) }
+    ensures { OnOk result (Adds is_text names.old (method_type_classes ty.now) names.new) }
 {
     add_arguments(names, ty.args.as_slice())?;
     add_result(names, &ty.ret)
 }
 
 fn add_arguments(names: &mut KeySet<Name>, types: &[FieldType]) -> M<()>
-    ensures { OnOk result (Adds names.old (flat_map type_classes types.now) names.new) }
+    ensures { OnOk result (Adds is_text names.old (flat_map type_classes types.now) names.new) }
 {
     for ty in types {
         add_type(names, ty)?;
@@ -94,7 +96,7 @@ fn add_arguments(names: &mut KeySet<Name>, types: &[FieldType]) -> M<()>
 
 #[tactic(auto, using(crate::proofs::Added::adds_none))]
 fn add_result(names: &mut KeySet<Name>, ty: &Option<FieldType>) -> M<()>
-    ensures { OnOk result (Adds names.old (result_classes ty.now) names.new) }
+    ensures { OnOk result (Adds is_text names.old (result_classes ty.now) names.new) }
 {
     match ty {
         Some(ty) => add_type(names, ty),

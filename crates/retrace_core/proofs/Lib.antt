@@ -1,3 +1,5 @@
 pub mod LastPlace
 pub mod LineParts
 pub mod Telling
+pub mod Links
+pub mod EachOnce

@@ -5,7 +5,7 @@ use Rattle.std.specs.BTreeMap.{insert_entry}
 use Rattle.std.specs.Cmp.Lexicographic.{slice_cmp}
 use Rattle.std.specs.List.{find}
 use Rattle.std.specs.Map.{lookup}
-use Rattle.std.specs.Option.{is_some, option_copied, option_map, option_or, unwrap_or}
+use Rattle.std.specs.Option.{is_some, option_copied, option_or}
 use Rattle.std.specs.Prelude.{OnOk}
 use Rattle.std.specs.Ordering.{is_eq, match_ordering, nat_cmp}
 use Rattle.std.specs.declared.cmp.Ordering.{Ordering}
@@ -16,8 +16,8 @@ use Rattle.std.proofs.lemmas.Map.Text.{is_eq-slice_cmp}
 use Rattle.jv_base.specs.Names.{is_text}
 use Rattle.jv_base.proofs.Equality.{same_text, text_is, text_sym}
 use Rattle.std.specs.Borrow.{Bor}
-use Rattle.mapping_file.specs.declared.mapping.MapMethod.{MapMethod}
-use Rattle.retrace_core.specs.bodies.Tables.{Answers, IsOldName, Tells, is_key}
+use Rattle.retrace_core.specs.bodies.Linked.{is_key}
+use Rattle.retrace_core.specs.bodies.Tables.{Answers, Tells}
 
 -- a name is a key where it is its text
 key_is : (name key : List ℕ) → is_key name key ≡ is_text key name
@@ -131,21 +131,6 @@ pub answers_none : {V C : Type 0} (same : V → C → Type 0) (o : Option V) (f 
 answers_none same None None is h = refl
 answers_none same None (Some c) is h = absurd h
 answers_none same (Some w) f is h = absurd cc
-
--- the old name that a table answers
-pub old_some : (old name : List ℕ) (o : Option (Bor (List ℕ))) (f : Option MapMethod)
-    → Some old ≡ option_map (λ v. v.now) o
-    → Answers IsOldName o f → old ≡ unwrap_or (option_map (λ m. m.old) f) name
-old_some old name (Some v) (Some m) is h = let e : old ≡ v.now = cc in e ∙ h
-old_some old name (Some v) None is h = absurd h
-old_some old name None f is h = absurd cc
-
--- a name that the table doesn't have
-pub old_none : (name : List ℕ) (o : Option (Bor (List ℕ))) (f : Option MapMethod) → None ≡ option_map (λ v. v.now) o
-    → Answers IsOldName o f → name ≡ unwrap_or (option_map (λ m. m.old) f) name
-old_none name None None is h = refl
-old_none name None (Some m) is h = absurd h
-old_none name (Some v) f is h = absurd cc
 
 -- what was copied is there where it was lent
 pub copied_some : {X : Type 0} (r : Option (Bor X)) → is_some (option_copied r) ≡ is_some r

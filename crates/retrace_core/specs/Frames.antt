@@ -1,8 +1,8 @@
 -- The line of a frame, as `    at demo.Main.main(Main.java:5)` (ProGuard manual, "ReTrace"; as Java prints one, and
 -- which lines are taken is the project's own).
-use Rattle.std.specs.Prelude.{ℕ, ◌+◌, ◌-◌, not, ◌&&◌, List, [], length, take, drop, Option, Some, None}
+use Rattle.std.specs.Prelude.{ℕ, ◌+◌, ◌-◌, ◌*◌, min, not, ◌&&◌, List, [], length, take, drop, Option, Some, None}
 use Rattle.std.specs.Prelude.{codes, ◌==◌, if◌then◌else◌}
-use Rattle.std.specs.List.{list_any, position, slice_index}
+use Rattle.std.specs.List.{fold, list_any, position, slice_index}
 use Rattle.std.specs.Str.{is_utf8}
 use Rattle.jv_base.specs.Names.{is_method_name}
 use Rattle.text_lines.specs.Cut.{◌>>=◌, where_true}
@@ -26,6 +26,11 @@ lacks_end source number = where_true (not (list_any (λ b. b == 41) source)) num
 abbrev pub numbered : List ℕ → List ℕ → Option (List ℕ)
 numbered source number = if length number == 1 then None
     else (if are_digits (drop 1 number) then lacks_end source number else None)
+
+-- the line behind a colon, if there is one; it is counted up to 65,536, which no range holds (JVMS 4.7.12)
+abbrev pub line_of : List ℕ → Option ℕ
+line_of number = if length number == 0 then None
+    else Some (fold (λ n b. min 65536 (10 * n + (b - 48))) 0 (drop 1 number))
 
 -- a source without a colon, and perhaps a colon and digits
 abbrev pub number_from : Option ℕ → List ℕ → Option (List ℕ)

@@ -1,6 +1,7 @@
 //! Stack traces whose classes and methods have new names, with the old ones again.
 #![tactic(auto)]
 
+mod candidates;
 mod cutting;
 mod frame;
 mod head;

@@ -4,11 +4,12 @@ ghost use Rattle.jv_base.specs.Names.{is_text};
 ghost use Rattle.std.specs.Option.{option_copied, option_map};
 ghost use Rattle.jv_base.specs.External.{dotted};
 ghost use Rattle.mapping_file.specs.declared.mapping.MapClass.{MapClass};
-ghost use Rattle.retrace_core.specs.OldNames.{class_named, old_in, outer_length, outermost, simple_name, source_of};
-ghost use Rattle.retrace_core.specs.bodies.Tables.{TellsClass, TellsClasses, kept_in};
+ghost use Rattle.retrace_core.specs.OldNames.{class_named, outer_length, outermost, simple_name, source_of};
+ghost use Rattle.retrace_core.specs.bodies.Linked.{kept_in};
+ghost use Rattle.retrace_core.specs.bodies.Tables.{TellsClass, TellsClasses};
 
 use crate::cutting::{last_place_of, place_of};
-use crate::tables::{OldMethods, old_methods};
+use crate::tables::OldMethods;
 use jv_base::{M, Name};
 use mapping_file::{MapClass, Mapping};
 use std::alloc::Global;
@@ -74,7 +75,7 @@ fn old_class<'a>(alloc: Global, class: &'a MapClass) -> M<OldClass<'a>>
 {
     let old = dotted(alloc, &class.old)?;
     let source = source_of(alloc, class.old.as_bytes())?;
-    let methods = old_methods(alloc, class.methods.as_slice())?;
+    let methods = OldMethods::of(alloc, class.methods.as_slice())?;
     Ok(OldClass {
         old,
         source,

@@ -92,6 +92,7 @@ module _ (inputs : List FileAt) (input : List Class) (outputs : List FileAt) (ma
       seeds = pair.none clause.SeedLost;
       closed = pair.none clause.NotClosed;
       members = pair.none clause.MemberDiffers;
+      ranges = pair.none clause.LineRange;
     };
     codes = pair.none clause.CodeDiffers;
   }

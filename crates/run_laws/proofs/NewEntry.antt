@@ -282,14 +282,14 @@ module _ (input output : List Class) (mapping : Mapping) (rules : Rules) (taken 
   not_clinit : is_text (new.method k.name k.descriptor) (codes "<clinit>") ≡ false
   not_clinit = by (is_text (new.method k.name k.descriptor) (codes "<clinit>")) refl
     where
-      named : IsNamedBy rest true k.name
+      named : IsNamedBy rest true (k.name, k.descriptor)
       named = record {
         class = (member_place input marks m).class;
         index = (member_place input marks m).index;
         row = row.0;
         at = row_same input marks m kept ∙ row.1;
         kind = row.2;
-        name_is = ap (λ (n : NameAndType). n.0) row_named;
+        named_is = row_named;
       }
 
       by : (b : Bool) → is_text (new.method k.name k.descriptor) (codes "<clinit>") ≡ b → b ≡ false
@@ -297,7 +297,7 @@ module _ (input output : List Class) (mapping : Mapping) (rules : Rules) (taken 
       by true e =
           let clinit = same_text (new.method k.name k.descriptor) (codes "<clinit>") e in
           let same = names_apart.one_method k.name (codes "<clinit>") k.descriptor (inl named) (inr (refl, refl))
-          (clinit ∙ sym names_apart.clinit) in
+          (clinit ∙ sym (names_apart.clinit k.descriptor)) in
           let is_one = text_is k.name (codes "<clinit>") same in
           absurd (let w : false ≡ true = sym (ap not is_one) ∙ static_named.1 in cc)
 
@@ -320,8 +320,8 @@ module _ (input output : List Class) (mapping : Mapping) (rules : Rules) (taken 
       let descriptor : k.descriptor ≡ method_text x.method.ty = ap (λ (n : NameAndType). n.1) named in
       let found = method_found input output mapping rules taken pair x.class x.method given.0 given.1 in
       named_so mapping k x.class x.method given.0 class name descriptor given.1
-      ∙ sym (method_name input output mapping rules taken pair x.method.name given.0 k.descriptor found)
-      ∙ ap (λ (t : List ℕ). new.method t k.descriptor) (sym name)
+      ∙ sym (method_name input output mapping rules taken pair x.method.name given.0 (method_text x.method.ty) found)
+      ∙ (λ i. new.method (sym name i) (sym descriptor i))
 
   pub key_same : new_key mapping entry ≡ keys.new_key new k
   key_same = λ i. record {

@@ -1,8 +1,9 @@
 //! Whole runs of the command in memory, one for each line of standard input: says what the run kept, wrote and said.
 //!
-//! A line is `kept CONFIG FILES`, `names CONFIG FILES`, `optimised CONFIG FILES`, `written CONFIG FILES`,
-//! `check CONFIG MAPPING WITNESS FILES`, `retrace MAPPING TRACE`, `run WORDS FILES` or `fails CALLS PUTS WORDS FILES`; the
-//! README tells how texts and files are written, and what is answered. The status is that of `line_answers`.
+//! A line is `kept CONFIG FILES`, `names CONFIG FILES`, `applied CONFIG OLD FILES`, `optimised CONFIG FILES`,
+//! `written CONFIG FILES`, `check CONFIG MAPPING WITNESS FILES`, `retrace MAPPING TRACE`, `run WORDS FILES` or
+//! `fails CALLS PUTS WORDS FILES`; the README tells how texts and files are written, and what is answered. The status is
+//! that of `line_answers`.
 #![tactic(auto)]
 
 mod checked;
@@ -25,6 +26,7 @@ fn answer<Rt: Threads + Sync>(rt: &Rt, alloc: Global, line: &[u8]) -> M<Option<T
     match word {
         b"kept" => kept::answer(rt, alloc, row),
         b"names" => named::answer(rt, alloc, row),
+        b"applied" => named::applied_answer(rt, alloc, row),
         b"optimised" => named::optimised_answer(rt, alloc, row),
         b"check" => checked::answer(rt, alloc, row),
         b"written" => checked::written_answer(rt, alloc, row),

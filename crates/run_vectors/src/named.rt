@@ -1,6 +1,7 @@
 // What a run wrote: the mapping and the class files, and of one with passes what it said and the witness too.
+// An earlier mapping may stand beside the config.
 use crate::kept::refusal_answer;
-use crate::running::{Ran, run_row};
+use crate::running::{Ran, run_row, run_with_old};
 use jv_base::{Bytes, Items, M, OutOfMemory, Text};
 use line_answers::push_escaped;
 use std::alloc::Global;
@@ -32,6 +33,18 @@ pub fn optimised_answer<Rt: Threads + Sync>(rt: &Rt, alloc: Global, row: &[u8]) 
     }
 }
 
+/// What `answer` tells of a run on an earlier mapping too; or what was said where the status isn't 0.
+pub fn applied_answer<Rt: Threads + Sync>(rt: &Rt, alloc: Global, row: &[u8]) -> M<Option<Text>> {
+    let Some(mut ran) = run_with_old(rt, alloc, row)? else {
+        return Ok(None);
+    };
+    if ran.status == 0 {
+        done_answer(alloc, &mut ran)
+    } else {
+        refusal_answer(alloc, ran.out.written())
+    }
+}
+
 fn told_answer(alloc: Global, ran: &mut Ran) -> M<Option<Text>> {
     let mut line = String::from_str(alloc, "ok ")?;
     push_escaped(&mut line, ran.out.written())?;
@@ -50,7 +63,7 @@ fn done_answer(alloc: Global, ran: &mut Ran) -> M<Option<Text>> {
 // A line with the mapping and the class files behind it.
 fn files_answer(alloc: Global, line: String, ran: &mut Ran) -> M<Option<Text>> {
     let mut line = line;
-    if !push_text(alloc, &mut line, &ran.tree, "map.txt")? {
+    if !push_mapping(alloc, &mut line, &ran.tree)? {
         return Ok(None);
     }
     let Some(paths) = paths_written(alloc, &mut ran.tree)? else {
@@ -62,6 +75,11 @@ fn files_answer(alloc: Global, line: String, ran: &mut Ran) -> M<Option<Text>> {
         }
     }
     Ok(Some(Text::from_string(alloc, line)?))
+}
+
+// Appends the mapping, if it was written: `map.txt`, or the earlier mapping's file where it stands there.
+fn push_mapping(alloc: Global, line: &mut String, tree: &MemoryTree) -> M<bool> {
+    Ok(push_text(alloc, line, tree, "map.txt")? || push_text(alloc, line, tree, "old.txt")?)
 }
 
 // Appends what stands at a path, if it was written.

@@ -38,6 +38,28 @@ pub fn run_row<Rt: Threads + Sync>(
     Ok(Some(run_words(rt, alloc, words, files)?))
 }
 
+/// A run of `shrink` on the config of a row as it is, and on the files of the row; beside these stands `old.txt` with the
+/// second text of the row, unless that is `-`. None where the row is of another form.
+pub fn run_with_old<Rt: Threads + Sync>(rt: &Rt, alloc: Global, row: &[u8]) -> M<Option<Ran>> {
+    let (config, rest) = first_word(row);
+    let (old, words) = first_word(rest);
+    let Some(config) = text_file(alloc, "config.pro", config)? else {
+        return Ok(None);
+    };
+    let Some(mut files) = input_of(alloc, words)? else {
+        return Ok(None);
+    };
+    files.push(config)?;
+    if old != b"-".as_slice() {
+        match text_file(alloc, "old.txt", old)? {
+            Some(old) => files.push(old)?,
+            None => return Ok(None),
+        }
+    }
+    let words = ["shrink", "config.pro", "wit.txt"];
+    Ok(Some(run_words(rt, alloc, words, files)?))
+}
+
 // The config of a row with more behind it; none where it is of another form.
 fn config_with(alloc: Global, config: &[u8], more: &str) -> M<Option<Vec<u8>>> {
     let Some(mut config) = unescaped(alloc, config)? else {

@@ -1,5 +1,5 @@
 -- What the laws promise of the small set and of what is written of it.
-use Rattle.std.proofs.Common.{refl, ltb-true}
+use Rattle.std.proofs.Common.{None, refl, ltb-true}
 use Rattle.std.specs.List.Sorted.{IsStrictlySortedBy}
 use Rattle.removal_laws.specs.AcceptedSets.Laws.{AreReadable}
 use Rattle.removal_laws.proofs.AcceptedSets.Taken.{are_taken}
@@ -35,6 +35,7 @@ pair_is = record {
   closed = none clause.NotClosed;
   members = none clause.MemberDiffers;
   codes = none clause.CodeDiffers;
+  ranges = none clause.LineRange;
 }
 
 pub does_the_same : SameRow
@@ -42,7 +43,7 @@ does_the_same =
     pairs_do_the_same input_files input files mapping rules unedited input_readable input_accepted output_readable taken
 
 -- the rules leave the codes as they are
-written_so : AreWritten input_files input marks rules as_it_is shrunk_set files
+written_so : AreWritten input_files input marks rules None as_it_is shrunk_set files
 written_so = record {
   readable = input_readable;
   accepted = input_accepted;
@@ -51,8 +52,9 @@ written_so = record {
   source_name = tt;
   optimised = refl;
   shrunk = shrunk_is;
+  earlier = tt;
   below = ((refl, refl), ((refl, refl), tt));
 }
 
 pub is_paired : OwnFilesArePaired → PairedRow
-is_paired paired = paired input_files input marks rules as_it_is shrunk_set files written_so
+is_paired paired = paired input_files input marks rules None as_it_is shrunk_set files written_so

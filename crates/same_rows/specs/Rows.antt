@@ -79,7 +79,7 @@ shrunk_set = record {
 
 -- they are what is written of these marks
 abbrev pub ShrunkRow : Type 0
-ShrunkRow = IsShrunk input marks rules shrunk_set
+ShrunkRow = IsShrunk input marks rules None shrunk_set
 
 -- the text of the mapping: `p.A -> p.A:`, `    void f() -> f`, `p.B -> p.a:`, `    int g() -> a`, each with its end
 abbrev pub mapping_lines : List ℕ

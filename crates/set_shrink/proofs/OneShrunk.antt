@@ -71,21 +71,21 @@ not_some o limit h k = absurd cc
 -- ---- the laws
 
 pub one_shrunk : IsOneShrunk
-one_shrunk classes marks rules one other h k =
+one_shrunk classes marks rules old one other h k =
     let files : one.files ≡ other.files =
-    same_files rules.out_dir (left_of classes marks rules) one.files other.files h.files k.files in
+    same_files rules.out_dir (left_of classes marks rules old) one.files other.files h.files k.files in
     let mapping : one.mapping ≡ other.mapping = h.mapping ∙ sym k.mapping in
     let read : one.read ≡ other.read = h.read ∙ sym k.read in
     let left : one.kept ≡ other.kept = h.left ∙ sym k.left in
     λ i. record { files = files i; mapping = mapping i; read = read i; kept = left i }
 
 pub one_limit : IsOneLimit
-one_limit classes marks rules limit other h k =
-    same_some (first_limit (left_of classes marks rules)) limit other
-    (limit_passed (left_of classes marks rules) limit h) (limit_passed (left_of classes marks rules) other k)
+one_limit classes marks rules old limit other h k =
+    same_some (first_limit (left_of classes marks rules old)) limit other
+    (limit_passed (left_of classes marks rules old) limit h) (limit_passed (left_of classes marks rules old) other k)
 
 pub not_both_shrunk : NotBothShrunk
-not_both_shrunk classes marks rules set limit h k =
-    not_some (first_limit (left_of classes marks rules)) limit
-    (none_passed rules.out_dir (left_of classes marks rules) set.files h.files)
-    (limit_passed (left_of classes marks rules) limit k)
+not_both_shrunk classes marks rules old set limit h k =
+    not_some (first_limit (left_of classes marks rules old)) limit
+    (none_passed rules.out_dir (left_of classes marks rules old) set.files h.files)
+    (limit_passed (left_of classes marks rules old) limit k)

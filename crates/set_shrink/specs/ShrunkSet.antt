@@ -1,6 +1,6 @@
 -- What is written of a set of classes (ProGuard manual, "Usage": shrinking removes what isn't kept, obfuscation renames
 -- what is).
-use Rattle.std.specs.Prelude.{◌≡◌, ℕ, Bool, List, ◌∷◌, ◌++◌, length, map, codes, Result, Ok, Err}
+use Rattle.std.specs.Prelude.{◌≡◌, ℕ, Bool, List, ◌∷◌, ◌++◌, length, map, codes, Option, Result, Ok, Err}
 use Rattle.std.specs.List.{AllByRecursion, AllZip, sum_by}
 use Rattle.jv_base.specs.declared.outcome.Or.{Or}
 use Rattle.jv_base.specs.declared.outcome.Or.TheVariants.{Fault, OutOfMemory}
@@ -14,6 +14,7 @@ use Rattle.attribute_filter.specs.Filtered.{filtered}
 use Rattle.attribute_filter.specs.KeptAttributes.{filter_of}
 use Rattle.class_rename.specs.Names.{Names}
 use Rattle.class_rename.specs.Renamed.{renamed}
+use Rattle.mapping_file.specs.declared.mapping.Mapping.{Mapping}
 use Rattle.rename_map.specs.MappingOf.{mapping_of}
 use Rattle.rename_map.specs.Names.{names_of}
 use Rattle.set_shrink.specs.Order.{in_order}
@@ -22,18 +23,19 @@ use Rattle.set_shrink.specs.declared.shrunk.ShrunkSet.{ShrunkSet}
 
 -- ---- what is kept
 
--- the new names of what is marked (ProGuard manual, "Usage": obfuscation)
-abbrev pub new_names : List Class → List Bool → Rules → Names
-new_names classes marks rules = names_of classes (shrunk classes marks) rules
+-- the new names of what is marked, of which an earlier mapping may give some (ProGuard manual, "Usage": obfuscation,
+-- "-applymapping")
+abbrev pub new_names : List Class → List Bool → Rules → Option Mapping → Names
+new_names classes marks rules old = names_of classes (shrunk classes marks) rules old
 
 -- the marked classes with their marked members under their new names (ProGuard manual, "Usage": obfuscation)
-abbrev pub renamed_of : List Class → List Bool → Rules → List Class
-renamed_of classes marks rules = map (renamed (new_names classes marks rules)) (shrunk classes marks)
+abbrev pub renamed_of : List Class → List Bool → Rules → Option Mapping → List Class
+renamed_of classes marks rules old = map (renamed (new_names classes marks rules old)) (shrunk classes marks)
 
 -- these in the order of their files, each with those optional attributes that the rules keep (ProGuard manual,
 -- "-keepattributes"; the order is the project's own)
-abbrev pub left_of : List Class → List Bool → Rules → List Class
-left_of classes marks rules = map (filtered (filter_of rules)) (in_order (renamed_of classes marks rules))
+abbrev pub left_of : List Class → List Bool → Rules → Option Mapping → List Class
+left_of classes marks rules old = map (filtered (filter_of rules)) (in_order (renamed_of classes marks rules old))
 
 -- ---- files
 
@@ -76,19 +78,20 @@ counts_of classes = record {
 
 -- the files of what is marked, below the output directory, the mapping, where lines are told if they are kept, and the
 -- counts of all and of what is marked
-pub record IsShrunk (classes : List Class) (marks : List Bool) (rules : Rules) (set : ShrunkSet) : Type 0 where
-  pub files : AreFilesOf rules.out_dir (left_of classes marks rules) set.files
+pub record IsShrunk (classes : List Class) (marks : List Bool) (rules : Rules) (old : Option Mapping) (set : ShrunkSet)
+    : Type 0 where
+  pub files : AreFilesOf rules.out_dir (left_of classes marks rules old) set.files
   pub mapping : set.mapping
-      ≡ mapping_of (new_names classes marks rules) (filter_of rules).line_numbers (shrunk classes marks)
+      ≡ mapping_of (new_names classes marks rules old) (filter_of rules).line_numbers (shrunk classes marks)
   pub read : set.read ≡ counts_of classes
   pub left : set.kept ≡ counts_of (shrunk classes marks)
 
 -- a class that is marked passes a limit
-abbrev pub PassesLimit : List Class → List Bool → Rules → WriteLimit → Type 0
-PassesLimit classes marks rules limit = PassLimit (left_of classes marks rules) limit
+abbrev pub PassesLimit : List Class → List Bool → Rules → Option Mapping → WriteLimit → Type 0
+PassesLimit classes marks rules old limit = PassLimit (left_of classes marks rules old) limit
 
 -- what is written of a set, or the first limit that it passes; want of memory is free
-abbrev pub Shrinks : Result ShrunkSet (Or WriteLimit) → List Class → List Bool → Rules → Type 0
-Shrinks (Ok set) classes marks rules = IsShrunk classes marks rules set
-Shrinks (Err (Fault limit)) classes marks rules = PassesLimit classes marks rules limit
-Shrinks (Err OutOfMemory) classes marks rules = Unit {0}
+abbrev pub Shrinks : Result ShrunkSet (Or WriteLimit) → List Class → List Bool → Rules → Option Mapping → Type 0
+Shrinks (Ok set) classes marks rules old = IsShrunk classes marks rules old set
+Shrinks (Err (Fault limit)) classes marks rules old = PassesLimit classes marks rules old limit
+Shrinks (Err OutOfMemory) classes marks rules old = Unit {0}

@@ -34,11 +34,12 @@ pub struct ShrunkSet {
 }
 
 /// The files of classes without what isn't kept, below the output directory of the rules: each kept class with its kept
-/// members under the new names that the rules leave to be given, beside those that stay (ProGuard manual, "Usage":
-/// obfuscation), and with those optional attributes that the rules keep, in its canonical spelling (JVMS 4). What is kept
-/// is marked, one mark for each item: each class in its order, then its fields, then its methods. Each kept class can be
-/// written under its new names. The error is the first limit of the format that a kept class passes (JVMS 4.11), in the
-/// order of the files. So many workers write the classes, each in a thread of its own; the answer is that of one.
+/// members under the new names that the rules leave to be given, beside those that stay, first what an earlier mapping
+/// has (ProGuard manual, "Usage": obfuscation, "-applymapping"), and with those optional attributes that the rules keep,
+/// in its canonical spelling (JVMS 4). What is kept is marked, one mark for each item: each class in its order, then its
+/// fields, then its methods. Each kept class can be written under its new names. The error is the first limit of the
+/// format that a kept class passes (JVMS 4.11), in the order of the files. So many workers write the classes, each in a
+/// thread of its own; the answer is that of one.
 pub fn shrink_classes<Rt: Threads + Sync>(
     rt: &Rt,
     workers: usize,
@@ -47,17 +48,18 @@ pub fn shrink_classes<Rt: Threads + Sync>(
     fixed: &Option<TakenNames>,
     marked: &Marked,
     rules: &Rules,
+    old: &Option<Mapping>,
 ) -> Result<ShrunkSet, Or<WriteLimit>>
     requires few { item_count classes < 4294967295 }
     requires marks { length marked.now ≡ item_count classes }
     requires fixed { AreFixed rules.now classes fixed.now }
-    requires writable { AllByRecursion IsWritable (renamed_of classes marked.now rules.now) }
-    ensures exact { Shrinks result classes marked.now rules.now }
+    requires writable { AllByRecursion IsWritable (renamed_of classes marked.now rules.now old.now) }
+    ensures exact { Shrinks result classes marked.now rules.now old.now }
 {
     let read = counts_of(classes.as_slice());
     let kept = shrunk(alloc, classes, marked)?;
     let counts = counts_of(kept.as_slice());
-    let names = names_beside(alloc, fixed, &kept)?;
+    let names = names_beside(alloc, fixed, &kept, old)?;
     let written = written_named(rt, workers, alloc, &names, kept, rules)?;
     Ok(ShrunkSet {
         files: written.files,

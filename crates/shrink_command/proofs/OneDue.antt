@@ -1,5 +1,5 @@
 -- One thing at most is due of told files: one plan, or one refusal.
-use Rattle.std.proofs.Common.{◌≡◌, ℕ, Bool, List, Result, Ok, Err, refl, sym, ap, subst, ◌∙◌}
+use Rattle.std.proofs.Common.{◌≡◌, ℕ, Bool, List, Option, Some, None, Result, Ok, Err, refl, sym, ap, subst, ◌∙◌}
 use Rattle.jv_base.proofs.Results.{same_fault, same_ok}
 use Rattle.tree_io.specs.Files.{Files}
 use Rattle.class_model.specs.declared.class.Class.{Class}
@@ -21,8 +21,14 @@ use Rattle.command_steps.proofs.OneStep.{one_config_apart, one_directory, one_ta
 use Rattle.command_steps.specs.Config.{IsConfigApart}
 use Rattle.command_steps.specs.Sets.{IsDirectory, IsSet}
 use Rattle.command_steps.specs.System.{IsSystem, or_many}
-use Rattle.shrink_command.specs.Due.{AreMarks, AreOptimised, FollowsCodes, FollowsInput, FollowsMarks, FollowsOutput}
-use Rattle.shrink_command.specs.Due.{FollowsRules, FollowsSystem, IsEmptied, IsPlan, IsPlanned, IsWritten, Joins, limit_told, or_long, plan_for}
+use Rattle.command_steps.specs.Texts.{AreEarlier, IsEarlier, IsMapping, or_bad_mapping}
+use Rattle.command_frame.specs.declared.refusal.Quantity.TheVariants as quantity
+use Rattle.std.specs.FinMap.{get}
+use Rattle.command_frame.specs.Steps.{IsFile, bytes_in}
+use Rattle.mapping_file.specs.MapReading.{read_mapping}
+use Rattle.mapping_file.specs.declared.mapping.Mapping.{Mapping}
+use Rattle.shrink_command.specs.Due.{AreMarks, AreOptimised, FollowsCodes, FollowsEarlier, FollowsInput, FollowsMarks}
+use Rattle.shrink_command.specs.Due.{FollowsOutput, FollowsRules, FollowsSystem, IsEmptied, IsPlan, IsPlanned, IsWritten, Joins, limit_told, or_long, plan_for}
 use Rattle.shrink_command.specs.OneDue.{IsOneDue}
 use Rattle.shrink_command.proofs.Planned.{found_readable}
 use Rattle.shrink_command.proofs.SameMarks.{same_marks}
@@ -35,6 +41,15 @@ one_emptied files directory (Ok one) (Err refusal) h k = absurd (k.1 h)
 one_emptied files directory (Err refusal) (Ok other) h k = absurd (h.1 k)
 one_emptied files directory (Err refusal) (Err other) h k = ap Err (h.0 ∙ sym k.0)
 
+-- ---- the earlier mapping
+
+one_earlier : (files : Files) (path : Option (List ℕ)) → IsOne (IsEarlier files path)
+one_earlier files None = one_value (Ok None)
+one_earlier files (Some path) = then_one (IsFile files quantity.Mapping path) AreEarlier
+    (one_value (bytes_in quantity.Mapping path (get files path)))
+    (λ bytes. then_one (IsMapping bytes) (λ mapping due. due ≡ Ok (Some mapping))
+    (one_value (or_bad_mapping (read_mapping bytes))) (λ mapping. one_value (Ok (Some mapping))))
+
 -- ---- the plan
 
 one_marked : (sys : System) → IsOne (AreMarks sys)
@@ -42,15 +57,15 @@ one_marked sys (Ok marks) (Ok other) h k = ap Ok (same_marks sys marks other h k
 one_marked sys (Ok marks) (Err refusal) h k = absurd k
 one_marked sys (Err refusal) other h k = absurd h
 
-one_written : (rules : Rules) (classes : List Class) (marks : List Bool) → IsOne (IsWritten rules classes marks)
-one_written rules classes marks (Ok shrunk) (Ok other) h k =
-    ap Ok (one_shrunk classes marks rules shrunk other h k)
-one_written rules classes marks (Ok shrunk) (Err refusal) h k =
-    absurd (not_both_shrunk classes marks rules shrunk k.0 h k.1)
-one_written rules classes marks (Err refusal) (Ok shrunk) h k =
-    absurd (not_both_shrunk classes marks rules shrunk h.0 k h.1)
-one_written rules classes marks (Err refusal) (Err other) h k =
-    ap Err (h.2 ∙ (ap limit_told (one_limit classes marks rules h.0 k.0 h.1 k.1) ∙ sym k.2))
+one_written : (rules : Rules) (old : Option Mapping) (classes : List Class) (marks : List Bool) → IsOne (IsWritten rules old classes marks)
+one_written rules old classes marks (Ok shrunk) (Ok other) h k =
+    ap Ok (one_shrunk classes marks rules old shrunk other h k)
+one_written rules old classes marks (Ok shrunk) (Err refusal) h k =
+    absurd (not_both_shrunk classes marks rules old shrunk k.0 h k.1)
+one_written rules old classes marks (Err refusal) (Ok shrunk) h k =
+    absurd (not_both_shrunk classes marks rules old shrunk h.0 k h.1)
+one_written rules old classes marks (Err refusal) (Err other) h k =
+    ap Err (h.2 ∙ (ap limit_told (one_limit classes marks rules old h.0 k.0 h.1 k.1) ∙ sym k.2))
 
 -- two steps, of which the second is one where the first gave something
 module _ {A B : Type 0} (First : Result A Refusal → Type 0) (Next : A → Result B Refusal → Type 0) where
@@ -70,23 +85,23 @@ one_optimised_by rules classes marks taken typed (Ok o) (Ok other) h k =
 one_optimised_by rules classes marks taken typed (Ok o) (Err refusal) h k = absurd k
 one_optimised_by rules classes marks taken typed (Err refusal) other h k = absurd h
 
-one_of_codes : (rules : Rules) (witness : List ℕ) (classes : List Class) (marks : List Bool) (o : Optimised)
-    → IsOne (FollowsCodes rules witness classes marks o)
-one_of_codes rules witness classes marks o =
-    then_one (IsWritten rules (with_codes o.codes classes) marks) _
-    (one_written rules (with_codes o.codes classes) marks)
+one_of_codes : (rules : Rules) (old : Option Mapping) (witness : List ℕ) (classes : List Class) (marks : List Bool) (o : Optimised)
+    → IsOne (FollowsCodes rules old witness classes marks o)
+one_of_codes rules old witness classes marks o =
+    then_one (IsWritten rules old (with_codes o.codes classes) marks) _
+    (one_written rules old (with_codes o.codes classes) marks)
     (λ shrunk. then_one _ (IsPlan shrunk o.witness o.fallback)
     (one_value (or_long (texts_due shrunk.mapping o.witness classes marks rules witness)))
     (λ texts. one_value (Ok (plan_for shrunk o.witness o.fallback texts))))
 
-one_planned : (rules : Rules) (witness : List ℕ) (classes : List Class) → IsTaken classes → AreTyped classes
-    → IsOne (IsPlanned rules witness classes)
-one_planned rules witness classes taken typed =
-    then_one (IsSystem rules classes) (FollowsSystem rules witness classes)
+one_planned : (rules : Rules) (old : Option Mapping) (witness : List ℕ) (classes : List Class) → IsTaken classes → AreTyped classes
+    → IsOne (IsPlanned rules old witness classes)
+one_planned rules old witness classes taken typed =
+    then_one (IsSystem rules classes) (FollowsSystem rules old witness classes)
     (one_value (or_many rules (system_due classes rules)))
-    (λ sys. then_one (AreMarks sys) (FollowsMarks rules witness classes) (one_marked sys)
-    (λ marks. then_one (AreOptimised rules classes marks) (FollowsCodes rules witness classes marks)
-    (one_optimised_by rules classes marks taken typed) (one_of_codes rules witness classes marks)))
+    (λ sys. then_one (AreMarks sys) (FollowsMarks rules old witness classes) (one_marked sys)
+    (λ marks. then_one (AreOptimised rules classes marks) (FollowsCodes rules old witness classes marks)
+    (one_optimised_by rules classes marks taken typed) (one_of_codes rules old witness classes marks)))
 
 -- ---- the law
 
@@ -94,12 +109,14 @@ pub one_due : IsOneDue
 one_due files named one other h k =
     then_one (IsConfigApart files named.config named.witness) (FollowsRules files named.witness)
     (one_config_apart files named.config named.witness)
-    (λ rules. then_one (IsEmptied files rules.out_dir) (λ done. FollowsOutput files named.witness rules)
+    (λ rules. then_one (IsEarlier files rules.apply) (FollowsEarlier files named.witness rules)
+    (one_earlier files rules.apply)
+    (λ old. then_one (IsEmptied files rules.out_dir) (λ done. FollowsOutput files named.witness rules old)
     (one_emptied files rules.out_dir)
-    (λ done. then_one_so (IsDirectory files rules.in_dir) (FollowsInput rules named.witness)
+    (λ done. then_one_so (IsDirectory files rules.in_dir) (FollowsInput rules old named.witness)
     (one_directory files rules.in_dir)
-    (λ inputs given. then_one_so (IsSet rules.in_dir inputs) (IsPlanned rules named.witness)
+    (λ inputs given. then_one_so (IsSet rules.in_dir inputs) (IsPlanned rules old named.witness)
     (one_taken rules.in_dir inputs)
-    (λ classes accepted. one_planned rules named.witness classes
-    (are_taken inputs classes (found_readable files rules.in_dir inputs given) accepted) accepted.typed))))
+    (λ classes accepted. one_planned rules old named.witness classes
+    (are_taken inputs classes (found_readable files rules.in_dir inputs given) accepted) accepted.typed)))))
     one other h k

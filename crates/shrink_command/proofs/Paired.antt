@@ -1,5 +1,5 @@
 -- What is written is a pair with what was read.
-use Rattle.std.proofs.Common.{◌≡◌, ℕ, Bool, true, false, cond, nat_le, List, [], ◌∷◌, ◌++◌, length, Result, Ok, Err}
+use Rattle.std.proofs.Common.{◌≡◌, ℕ, Bool, true, false, cond, nat_le, List, [], ◌∷◌, ◌++◌, length, Option, Result, Ok, Err}
 use Rattle.std.proofs.Common.{refl, sym, ap, subst, ◌∙◌, arith}
 use Rattle.std.specs.FinMap.{keys}
 use Rattle.jv_base.proofs.Results.{same_ok}
@@ -45,7 +45,9 @@ use Rattle.command_steps.specs.Config.{IsConfig, IsConfigApart, IsConfigured, Is
 use Rattle.command_steps.specs.Refusals.{rules_refused}
 use Rattle.command_steps.specs.Sets.{IsDirectory, IsSet}
 use Rattle.command_steps.specs.System.{IsSystem}
-use Rattle.shrink_command.specs.Due.{AreMarks, AreOptimised, FollowsCodes, FollowsInput, FollowsMarks, FollowsOutput}
+use Rattle.command_steps.specs.Texts.{IsEarlier}
+use Rattle.command_steps.proofs.Earlier.{earlier_has_text}
+use Rattle.shrink_command.specs.Due.{AreMarks, AreOptimised, FollowsCodes, FollowsEarlier, FollowsInput, FollowsMarks, FollowsOutput}
 use Rattle.shrink_command.specs.Due.{FollowsRules, FollowsSystem, IsDue, IsEmptied, IsKept, IsPlan, IsPlanned, IsWritten, Joins, or_long, plan_for}
 use Rattle.shrink_command.specs.OwnPair.{DueIsOwnPair, IsOwnPair, mapping_file}
 use Rattle.shrink_command.specs.declared.command.ShrinkFiles.{ShrinkFiles}
@@ -81,6 +83,8 @@ pub record IsResult (files : Files) (named : ShrinkFiles) (plan : Plan) : Type 0
   pub config : IsConfig bytes named.witness rules
   pub configured : IsConfigured files named.config named.witness (Ok rules)
   pub clear : meets_config named.config rules named.witness ≡ false
+  pub old : Option Mapping
+  pub earlier : IsEarlier files rules.apply (Ok old)
   pub empty : paths_below rules.out_dir (keys files) ≡ []
   pub inputs : List FileAt
   pub given : input_due files rules.in_dir ≡ Ok inputs
@@ -91,7 +95,7 @@ pub record IsResult (files : Files) (named : ShrinkFiles) (plan : Plan) : Type 0
   pub optimised : Optimised
   pub is_optimised : IsOptimisedIf rules.optimise marks classes optimised
   pub shrunk : ShrunkSet
-  pub is_shrunk : IsShrunk (with_codes optimised.codes classes) marks rules shrunk
+  pub is_shrunk : IsShrunk (with_codes optimised.codes classes) marks rules old shrunk
   pub texts : List FileAt
   pub told : texts_due shrunk.mapping optimised.witness classes marks rules named.witness ≡ Ok texts
   pub files_are : plan.files ≡ shrunk.files ++ texts
@@ -119,11 +123,12 @@ texts_told (Ok others) texts h = ap Ok (same_ok others texts (sym h))
 texts_told (Err long) texts h = absurd (no_err texts (passed quantity.Text) h)
 
 -- what was made of what is kept
-pub record IsOutput (rules : Rules) (witness : List ℕ) (classes : List Class) (marks : List Bool) (plan : Plan) : Type 0 where
+pub record IsOutput (rules : Rules) (old : Option Mapping) (witness : List ℕ) (classes : List Class) (marks : List Bool)
+    (plan : Plan) : Type 0 where
   pub optimised : Optimised
   pub is_optimised : IsOptimisedIf rules.optimise marks classes optimised
   pub shrunk : ShrunkSet
-  pub is_shrunk : IsShrunk (with_codes optimised.codes classes) marks rules shrunk
+  pub is_shrunk : IsShrunk (with_codes optimised.codes classes) marks rules old shrunk
   pub texts : List FileAt
   pub told : texts_due shrunk.mapping optimised.witness classes marks rules witness ≡ Ok texts
   pub files_are : plan.files ≡ shrunk.files ++ texts
@@ -136,11 +141,11 @@ texts_behind shrunk edits fallback told plan due =
     let h = both_gave (λ (z : Result (List FileAt) Refusal). z ≡ or_long told) (IsPlan shrunk edits fallback) plan due in
     (h.0, texts_told told h.0 h.1, ap (λ (p : Plan). p.files) (same_ok plan (plan_for shrunk edits fallback h.0) h.2))
 
-module _ (rules : Rules) (witness : List ℕ) (classes : List Class) (marks : List Bool) (plan : Plan) where
+module _ (rules : Rules) (old : Option Mapping) (witness : List ℕ) (classes : List Class) (marks : List Bool) (plan : Plan) where
   written_out : (o : Optimised) → IsOptimisedIf rules.optimise marks classes o → (shrunk : ShrunkSet)
-      → IsShrunk (with_codes o.codes classes) marks rules shrunk
+      → IsShrunk (with_codes o.codes classes) marks rules old shrunk
       → Joins shrunk o.witness o.fallback (texts_due shrunk.mapping o.witness classes marks rules witness) (Ok plan)
-      → IsOutput rules witness classes marks plan
+      → IsOutput rules old witness classes marks plan
   written_out o is shrunk is_shrunk due =
       let h = texts_behind shrunk o.witness o.fallback (texts_due shrunk.mapping o.witness classes marks rules witness)
       plan due in
@@ -155,27 +160,28 @@ module _ (rules : Rules) (witness : List ℕ) (classes : List Class) (marks : Li
       }
 
   coded : (o : Optimised) → IsOptimisedIf rules.optimise marks classes o
-      → FollowsCodes rules witness classes marks o (Ok plan) → IsOutput rules witness classes marks plan
+      → FollowsCodes rules old witness classes marks o (Ok plan) → IsOutput rules old witness classes marks plan
   coded o is due =
-      let g = both_gave (IsWritten rules (with_codes o.codes classes) marks)
+      let g = both_gave (IsWritten rules old (with_codes o.codes classes) marks)
       (λ shrunk. Joins shrunk o.witness o.fallback (texts_due shrunk.mapping o.witness classes marks rules witness))
       plan due in
       written_out o is g.0 g.1 g.2
 
-  output_of : FollowsMarks rules witness classes marks (Ok plan) → IsOutput rules witness classes marks plan
+  output_of : FollowsMarks rules old witness classes marks (Ok plan) → IsOutput rules old witness classes marks plan
   output_of due =
-      let o = both_gave (AreOptimised rules classes marks) (FollowsCodes rules witness classes marks) plan due in
+      let o = both_gave (AreOptimised rules classes marks) (FollowsCodes rules old witness classes marks) plan due in
       coded o.0 o.1 o.2
 
 module _ (files : Files) (named : ShrinkFiles) (plan : Plan) (rules : Rules)
     (configured : IsConfigured files named.config named.witness (Ok rules))
     (clear : meets_config named.config rules named.witness ≡ false)
+    (old : Option Mapping) (earlier : IsEarlier files rules.apply (Ok old))
     (empty : paths_below rules.out_dir (keys files) ≡ []) (inputs : List FileAt)
     (given : input_due files rules.in_dir ≡ Ok inputs) (classes : List Class) (taken : IsAccepted inputs classes) where
   marked : (sys : System) → IsSystem rules classes (Ok sys) → (marks : List Bool) → Marks sys marks
-      → FollowsMarks rules named.witness classes marks (Ok plan) → IsResult files named plan
+      → FollowsMarks rules old named.witness classes marks (Ok plan) → IsResult files named plan
   marked sys asked marks least due =
-      let out = output_of rules named.witness classes marks plan due in
+      let out = output_of rules old named.witness classes marks plan due in
       let k = both_gave (IsFile files quantity.Config named.config) (λ bytes. IsRules bytes named.witness) rules
       configured in
       record {
@@ -184,6 +190,8 @@ module _ (files : Files) (named : ShrinkFiles) (plan : Plan) (rules : Rules)
         config = k.2;
         configured = configured;
         clear = clear;
+        old = old;
+        earlier = earlier;
         empty = empty;
         inputs = inputs;
         given = given;
@@ -200,20 +208,21 @@ module _ (files : Files) (named : ShrinkFiles) (plan : Plan) (rules : Rules)
         files_are = out.files_are;
       }
 
-  planned : IsPlanned rules named.witness classes (Ok plan) → IsResult files named plan
+  planned : IsPlanned rules old named.witness classes (Ok plan) → IsResult files named plan
   planned due =
-      let e = both_gave (IsSystem rules classes) (FollowsSystem rules named.witness classes) plan due in
-      let f = both_gave (AreMarks e.0) (FollowsMarks rules named.witness classes) plan e.2 in
+      let e = both_gave (IsSystem rules classes) (FollowsSystem rules old named.witness classes) plan due in
+      let f = both_gave (AreMarks e.0) (FollowsMarks rules old named.witness classes) plan e.2 in
       marked e.0 e.1 f.0 f.1 f.2
 
 pub result : (files : Files) (named : ShrinkFiles) (plan : Plan) → IsDue named files (Ok plan) → IsResult files named plan
 result files named plan due =
     let y = both_gave (IsConfigApart files named.config named.witness) (FollowsRules files named.witness) plan due in
     let z = config_apart files named.config named.witness y.0 y.1 in
-    let b = both_gave (IsEmptied files y.0.out_dir) (λ done. FollowsOutput files named.witness y.0) plan y.2 in
-    let c = both_gave (IsDirectory files y.0.in_dir) (FollowsInput y.0 named.witness) plan b.2 in
-    let d = both_gave (IsSet y.0.in_dir c.0) (IsPlanned y.0 named.witness) plan c.2 in
-    planned files named plan y.0 z.0 z.1 b.1 c.0 c.1 d.0 d.1 d.2
+    let a = both_gave (IsEarlier files y.0.apply) (FollowsEarlier files named.witness y.0) plan y.2 in
+    let b = both_gave (IsEmptied files y.0.out_dir) (λ done. FollowsOutput files named.witness y.0 a.0) plan a.2 in
+    let c = both_gave (IsDirectory files y.0.in_dir) (FollowsInput y.0 a.0 named.witness) plan b.2 in
+    let d = both_gave (IsSet y.0.in_dir c.0) (IsPlanned y.0 a.0 named.witness) plan c.2 in
+    planned files named plan y.0 z.0 z.1 a.0 a.1 b.1 c.0 c.1 d.0 d.1 d.2
 
 -- ---- the pair
 
@@ -223,9 +232,9 @@ pass_laws = record { legal = found_legal; swapped = swapped_by_rules found_legal
 
 module _ (files : Files) (named : ShrinkFiles) (plan : Plan) (r : IsResult files named plan) where
   pub below : (written : List FileAt) × AreBelow r.rules.out_dir r.shrunk.files written
-  below = files_below (with_codes r.optimised.codes r.classes) r.marks r.rules r.shrunk r.is_shrunk
+  below = files_below (with_codes r.optimised.codes r.classes) r.marks r.rules r.old r.shrunk r.is_shrunk
 
-  pub written_so : AreWritten r.inputs r.classes r.marks r.rules r.optimised r.shrunk below.0
+  pub written_so : AreWritten r.inputs r.classes r.marks r.rules r.old r.optimised r.shrunk below.0
   written_so =
       let config = r.config in
       record {
@@ -237,13 +246,14 @@ module _ (files : Files) (named : ShrinkFiles) (plan : Plan) (r : IsResult files
             config.stand;
         optimised = r.is_optimised;
         shrunk = r.is_shrunk;
+        earlier = earlier_has_text files r.rules.apply r.old r.earlier;
         below = below.1;
       }
 
   -- what is found where the plan was written
   pub again : IsFoundAgain files (put_all files (r.shrunk.files ++ r.texts)) named.config named.witness r.rules
       r.shrunk.mapping r.optimised.witness below.0
-  again = files_found_again pass_laws r.inputs r.classes r.marks r.rules r.optimised r.shrunk below.0 written_so files
+  again = files_found_again pass_laws r.inputs r.classes r.marks r.rules r.old r.optimised r.shrunk below.0 written_so files
       named.config named.witness r.texts r.empty r.config.stand.apart r.clear r.told
 
   own_pair : IsOwnPair files named plan
@@ -261,10 +271,10 @@ module _ (files : Files) (named : ShrinkFiles) (plan : Plan) (r : IsResult files
         edits = r.optimised.witness;
         others = text.0;
         files_are = r.files_are ∙ ap (λ (texts : List FileAt). r.shrunk.files ++ texts) text.1;
-        paired = own_paired pass_laws r.inputs r.classes r.marks r.rules r.optimised r.shrunk below.0 written_so;
+        paired = own_paired pass_laws r.inputs r.classes r.marks r.rules r.old r.optimised r.shrunk below.0 written_so;
         again = subst (λ (there : List FileAt). IsFoundAgain files (put_all files plan.files) named.config named.witness
             r.rules r.shrunk.mapping r.optimised.witness there)
-            (sym (own_written pass_laws r.inputs r.classes r.marks r.rules r.optimised r.shrunk below.0 written_so))
+            (sym (own_written pass_laws r.inputs r.classes r.marks r.rules r.old r.optimised r.shrunk below.0 written_so))
             (subst (λ (put : List FileAt). IsFoundAgain files (put_all files put) named.config named.witness r.rules
             r.shrunk.mapping r.optimised.witness below.0) (sym r.files_are) again);
       }

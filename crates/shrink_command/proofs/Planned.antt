@@ -1,6 +1,7 @@
 -- What is known of a set that is kept.
-use Rattle.std.proofs.Common.{◌≡◌, ℕ, Bool, List, length, Ok, subst, ◌∙◌, arith}
+use Rattle.std.proofs.Common.{◌≡◌, ℕ, Bool, List, Option, length, Ok, subst, ◌∙◌, arith}
 use Rattle.std.specs.List.{AllByRecursion}
+use Rattle.std.specs.Prelude.{IfSome}
 use Rattle.tree_io.specs.Files.{Files}
 use Rattle.tree_io.specs.declared.file_at.FileAt.{FileAt}
 use Rattle.class_files.specs.Input.{input_due}
@@ -11,6 +12,8 @@ use Rattle.class_pool.specs.Count.{item_count}
 use Rattle.keep_rules.specs.declared.rules.Rules.{Rules}
 use Rattle.class_laws.specs.SpellingLaws.{IsWritable}
 use Rattle.pair_laws.specs.NamedForm.Laws.{KeepsWritable, OptimisedKeepsWritable}
+use Rattle.mapping_file.specs.declared.mapping.Mapping.{Mapping}
+use Rattle.mapping_file.specs.Mappings.{IsMapping}
 use Rattle.pass_driver.specs.Optimised.{IsOptimisedIf}
 use Rattle.pass_driver.specs.declared.optimising.Optimised.{Optimised}
 use Rattle.pair_laws.proofs.FilesFound.Found.{ascend_found}
@@ -66,8 +69,8 @@ found_readable files directory inputs given =
 
 -- ---- with the codes that become of what is kept
 
-pub codes_so : OptimisedKeepsWritable → (classes : List Class) (rules : Rules) (marks : List Bool) (o : Optimised)
-    → IsGiven classes → IsKept rules classes marks → IsOptimisedIf rules.optimise marks classes o
-    → KeepsWritable classes rules marks o
-codes_so law classes rules marks o given kept optimised =
-    law classes rules marks o given.taken given.typed (kept_closed rules classes marks kept) given.writable optimised
+pub codes_so : OptimisedKeepsWritable → (classes : List Class) (rules : Rules) (old : Option Mapping) (marks : List Bool) (o : Optimised)
+    → IsGiven classes → IfSome old IsMapping → IsKept rules classes marks → IsOptimisedIf rules.optimise marks classes o
+    → KeepsWritable classes rules old marks o
+codes_so law classes rules old marks o given names kept optimised =
+    law classes rules old marks o names given.taken given.typed (kept_closed rules classes marks kept) given.writable optimised

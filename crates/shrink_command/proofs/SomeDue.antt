@@ -26,7 +26,9 @@ use Rattle.command_steps.proofs.OneConfig.{config_found}
 use Rattle.command_steps.specs.Config.{IsConfigApart, IsConfigured, IsRules, config_read, rules_apart}
 use Rattle.command_steps.specs.Refusals.{rules_refused}
 use Rattle.command_steps.specs.Sets.{IsDirectory, IsSet, set_refused}
-use Rattle.shrink_command.specs.Due.{FollowsInput, FollowsOutput, FollowsRules, IsEmptied, IsEmpty, IsPlanned, not_empty}
+use Rattle.command_steps.specs.Texts.{AreEarlier, IsEarlier, IsMapping, or_bad_mapping}
+use Rattle.mapping_file.specs.MapReading.{read_mapping}
+use Rattle.shrink_command.specs.Due.{FollowsEarlier, FollowsInput, FollowsOutput, FollowsRules, IsEmptied, IsEmpty, IsPlanned, not_empty}
 use Rattle.shrink_command.specs.SomeDue.{HoldBytes, IsSomeDue}
 use Rattle.removal_laws.proofs.AcceptedSets.Taken.{are_taken}
 use Rattle.shrink_command.proofs.Planned.{found_readable}
@@ -50,6 +52,16 @@ some_config_apart : (files : Files) (config witness : List ℕ) → IsSome (IsCo
 some_config_apart files config witness =
     then_some (IsConfigured files config witness) (λ rules due. due ≡ rules_apart config witness rules)
     (some_configured files config witness) (λ rules told. some_value (rules_apart config witness rules))
+
+-- ---- the earlier mapping
+
+some_earlier : (files : Files) (path : Option (List ℕ)) → IsSome (IsEarlier files path)
+some_earlier files None = some_value (Ok None)
+some_earlier files (Some path) =
+    then_some (IsFile files quantity.Mapping path) AreEarlier
+    (some_value (bytes_in quantity.Mapping path (get files path)))
+    (λ bytes told. then_some (IsMapping bytes) (λ mapping due. due ≡ Ok (Some mapping))
+    (some_value (or_bad_mapping (read_mapping bytes))) (λ mapping is. some_value (Ok (Some mapping))))
 
 -- ---- the output directory
 
@@ -126,11 +138,13 @@ pub some_due : IsSomeDue
 some_due files named hold =
     then_some (IsConfigApart files named.config named.witness) (FollowsRules files named.witness)
     (some_config_apart files named.config named.witness)
-    (λ rules has. then_some (IsEmptied files rules.out_dir) (λ done. FollowsOutput files named.witness rules)
+    (λ rules has. then_some (IsEarlier files rules.apply) (FollowsEarlier files named.witness rules)
+    (some_earlier files rules.apply)
+    (λ old read. then_some (IsEmptied files rules.out_dir) (λ done. FollowsOutput files named.witness rules old)
     (emptied_by files rules.out_dir (paths_below rules.out_dir (keys files)) refl)
-    (λ done empty. then_some (IsDirectory files rules.in_dir) (FollowsInput rules named.witness)
+    (λ done empty. then_some (IsDirectory files rules.in_dir) (FollowsInput rules old named.witness)
     (some_directory files rules.in_dir)
-    (λ inputs given. then_some (IsSet rules.in_dir inputs) (IsPlanned rules named.witness)
+    (λ inputs given. then_some (IsSet rules.in_dir inputs) (IsPlanned rules old named.witness)
     (some_set files rules.in_dir inputs hold given)
-    (λ classes accepted. some_planned rules classes named.witness
-    (are_taken inputs classes (found_readable files rules.in_dir inputs given) accepted) accepted.typed))))
+    (λ classes accepted. some_planned rules old classes named.witness
+    (are_taken inputs classes (found_readable files rules.in_dir inputs given) accepted) accepted.typed)))))

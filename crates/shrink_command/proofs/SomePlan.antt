@@ -1,5 +1,5 @@
 -- What a config keeps of a set can be written, or a first limit is passed.
-use Rattle.std.proofs.Common.{◌≡◌, ◌⊎◌, inl, inr, ℕ, Bool, List, [], ◌∷◌, Result, Ok, Err, refl, ap}
+use Rattle.std.proofs.Common.{◌≡◌, ◌⊎◌, inl, inr, ℕ, Bool, List, [], ◌∷◌, Option, Result, Ok, Err, refl, ap}
 use Rattle.tree_io.specs.declared.file_at.FileAt.{FileAt}
 use Rattle.attribute_filter.specs.KeptAttributes.{filter_of}
 use Rattle.class_model.specs.WriteLimits.{class_written}
@@ -13,6 +13,7 @@ use Rattle.member_shrink.specs.Shrunk.{shrunk}
 use Rattle.optimised_laws.proofs.SomeOptimised.{some_optimised}
 use Rattle.pass_driver.specs.Optimised.{with_codes}
 use Rattle.pass_driver.specs.declared.optimising.Optimised.{Optimised}
+use Rattle.mapping_file.specs.declared.mapping.Mapping.{Mapping}
 use Rattle.rename_map.specs.MappingOf.{mapping_of}
 use Rattle.rule_system.specs.Required.{system_due}
 use Rattle.set_shrink.specs.ShrunkSet.{AreFilesOf, PassLimit, counts_of, left_of, new_names, path_of}
@@ -70,13 +71,13 @@ write_or : (directory : List ℕ) (classes : List Class) → Writes directory cl
 write_or directory [] = inl ([], tt)
 write_or directory (c ∷ classes) = write_first directory c classes (class_written c) refl (write_or directory classes)
 
-module _ (rules : Rules) where
-  some_written : (classes : List Class) (marks : List Bool) → Writes rules.out_dir (left_of classes marks rules)
-      → IsSome (IsWritten rules classes marks)
+module _ (rules : Rules) (old : Option Mapping) where
+  some_written : (classes : List Class) (marks : List Bool) → Writes rules.out_dir (left_of classes marks rules old)
+      → IsSome (IsWritten rules old classes marks)
   some_written classes marks (inl (files, written)) = (
     Ok (record {
       files = files;
-      mapping = mapping_of (new_names classes marks rules) (filter_of rules).line_numbers (shrunk classes marks);
+      mapping = mapping_of (new_names classes marks rules old) (filter_of rules).line_numbers (shrunk classes marks);
       read = counts_of classes;
       kept = counts_of (shrunk classes marks);
     }),
@@ -84,20 +85,20 @@ module _ (rules : Rules) where
   )
   some_written classes marks (inr (limit, pass)) = (Err (limit_told limit), (limit, pass, refl))
 
-module _ (rules : Rules) (classes : List Class) where
+module _ (rules : Rules) (old : Option Mapping) (classes : List Class) where
   some_marked : (sys : System) → IsSystem rules classes (Ok sys) → IsSome (AreMarks sys)
   some_marked sys told =
       let marks = some_marks sys (due_valid classes rules sys (system_told rules classes sys told).due) in
       (Ok marks.0, marks.1)
 
   some_codes : (witness : List ℕ) (marks : List Bool) (o : Optimised)
-      → IsSome (FollowsCodes rules witness classes marks o)
+      → IsSome (FollowsCodes rules old witness classes marks o)
   some_codes witness marks o =
       let told = λ (shrunk : ShrunkSet). texts_due shrunk.mapping o.witness classes marks rules witness in
-      then_some (IsWritten rules (with_codes o.codes classes) marks)
+      then_some (IsWritten rules old (with_codes o.codes classes) marks)
       (λ shrunk. Joins shrunk o.witness o.fallback (told shrunk))
-      (some_written rules (with_codes o.codes classes) marks
-      (write_or rules.out_dir (left_of (with_codes o.codes classes) marks rules)))
+      (some_written rules old (with_codes o.codes classes) marks
+      (write_or rules.out_dir (left_of (with_codes o.codes classes) marks rules old)))
       (λ shrunk written. then_some (λ due. due ≡ or_long (told shrunk)) (IsPlan shrunk o.witness o.fallback)
       (some_value (or_long (told shrunk)))
       (λ texts are. some_value (Ok (plan_for shrunk o.witness o.fallback texts))))
@@ -110,11 +111,11 @@ module _ (rules : Rules) (classes : List Class) where
       (Ok o.0, o.1)
 
   pub some_planned : (witness : List ℕ) → IsTaken classes → AreTyped classes
-      → IsSome (IsPlanned rules witness classes)
+      → IsSome (IsPlanned rules old witness classes)
   some_planned witness taken typed =
-      then_some (IsSystem rules classes) (FollowsSystem rules witness classes)
+      then_some (IsSystem rules classes) (FollowsSystem rules old witness classes)
       (some_value (or_many rules (system_due classes rules)))
-      (λ sys told. then_some (AreMarks sys) (FollowsMarks rules witness classes) (some_marked sys told)
-      (λ marks least. then_some (AreOptimised rules classes marks) (FollowsCodes rules witness classes marks)
+      (λ sys told. then_some (AreMarks sys) (FollowsMarks rules old witness classes) (some_marked sys told)
+      (λ marks least. then_some (AreOptimised rules classes marks) (FollowsCodes rules old witness classes marks)
       (some_optimised_by sys marks told least taken typed)
       (λ o is. some_codes witness marks o)))

@@ -1,6 +1,6 @@
 -- What `shrink CONFIG OUTWIT` is to write and to say of told files, or why it is refused (the project's own: what the
 -- command promises).
-use Rattle.std.specs.Prelude.{◌≡◌, ℕ, Bool, false, List, [], ◌++◌, length, Result, Ok, Err}
+use Rattle.std.specs.Prelude.{◌≡◌, ℕ, Bool, false, List, [], ◌++◌, length, Option, Result, Ok, Err}
 use Rattle.std.specs.FinMap.{keys}
 use Rattle.tree_io.specs.Below.{paths_below}
 use Rattle.tree_io.specs.Files.{Files}
@@ -10,6 +10,7 @@ use Rattle.class_model.specs.declared.limit.WriteLimit.{WriteLimit}
 use Rattle.class_model.specs.declared.limit.WriteLimit.TheVariants as limit
 use Rattle.keep_rules.specs.declared.rules.Rules.{Rules}
 use Rattle.list_texts.specs.declared.limit.TooLong.{TooLong as LongText}
+use Rattle.mapping_file.specs.declared.mapping.Mapping.{Mapping}
 use Rattle.mark_core.specs.Marks.{Marks}
 use Rattle.mark_core.specs.declared.system.System.{System}
 use Rattle.pass_driver.specs.Optimised.{IsOptimisedIf, with_codes}
@@ -29,6 +30,7 @@ use Rattle.command_frame.specs.declared.refusal.Refusal.{Refusal}
 use Rattle.command_steps.specs.Config.{IsConfigApart}
 use Rattle.command_steps.specs.Sets.{IsDirectory, IsSet}
 use Rattle.command_steps.specs.System.{IsSystem, keeps_nothing}
+use Rattle.command_steps.specs.Texts.{IsEarlier}
 use Rattle.shrink_command.specs.Summary.{summary_text}
 use Rattle.shrink_command.specs.declared.command.ShrinkFiles.{ShrinkFiles}
 
@@ -77,10 +79,10 @@ abbrev pub limit_told : WriteLimit → Refusal
 limit_told passes = limit_refused (limit_name passes) (most_written passes)
 
 -- the class files of what is kept, or the first limit of the format that one passes
-abbrev pub IsWritten : Rules → List Class → List Bool → Result ShrunkSet Refusal → Type 0
-IsWritten rules classes marks (Ok shrunk) = IsShrunk classes marks rules shrunk
-IsWritten rules classes marks (Err refusal) =
-    (passes : WriteLimit) × PassesLimit classes marks rules passes × (refusal ≡ limit_told passes)
+abbrev pub IsWritten : Rules → Option Mapping → List Class → List Bool → Result ShrunkSet Refusal → Type 0
+IsWritten rules old classes marks (Ok shrunk) = IsShrunk classes marks rules old shrunk
+IsWritten rules old classes marks (Err refusal) =
+    (passes : WriteLimit) × PassesLimit classes marks rules old passes × (refusal ≡ limit_told passes)
 
 -- the texts behind them, or that one is longer than 64 MiB
 abbrev pub or_long : Result (List FileAt) LongText → Result (List FileAt) Refusal
@@ -109,35 +111,40 @@ Joins shrunk edits fallback told = Then (λ due. due ≡ or_long told) (IsPlan s
 
 -- the class files of what is kept, with the codes that become of its methods; behind them the mapping, the list of what
 -- the rules keep and the list of what is dropped, where these are asked for, and the witness at its path
-abbrev pub FollowsCodes : Rules → List ℕ → List Class → List Bool → Optimised → Result Plan Refusal → Type 0
-FollowsCodes rules witness classes marks o = Then (IsWritten rules (with_codes o.codes classes) marks)
+abbrev pub FollowsCodes : Rules → Option Mapping → List ℕ → List Class → List Bool → Optimised → Result Plan Refusal → Type 0
+FollowsCodes rules old witness classes marks o = Then (IsWritten rules old (with_codes o.codes classes) marks)
     (λ shrunk. Joins shrunk o.witness o.fallback (texts_due shrunk.mapping o.witness classes marks rules witness))
 
 -- what is kept is optimised and written
-abbrev pub FollowsMarks : Rules → List ℕ → List Class → List Bool → Result Plan Refusal → Type 0
-FollowsMarks rules witness classes marks =
-    Then (AreOptimised rules classes marks) (FollowsCodes rules witness classes marks)
+abbrev pub FollowsMarks : Rules → Option Mapping → List ℕ → List Class → List Bool → Result Plan Refusal → Type 0
+FollowsMarks rules old witness classes marks =
+    Then (AreOptimised rules classes marks) (FollowsCodes rules old witness classes marks)
 
 -- what is kept of the classes by the rules, and what is written of it
-abbrev pub FollowsSystem : Rules → List ℕ → List Class → System → Result Plan Refusal → Type 0
-FollowsSystem rules witness classes sys = Then (AreMarks sys) (FollowsMarks rules witness classes)
+abbrev pub FollowsSystem : Rules → Option Mapping → List ℕ → List Class → System → Result Plan Refusal → Type 0
+FollowsSystem rules old witness classes sys = Then (AreMarks sys) (FollowsMarks rules old witness classes)
 
-abbrev pub IsPlanned : Rules → List ℕ → List Class → Result Plan Refusal → Type 0
-IsPlanned rules witness classes = Then (IsSystem rules classes) (FollowsSystem rules witness classes)
+abbrev pub IsPlanned : Rules → Option Mapping → List ℕ → List Class → Result Plan Refusal → Type 0
+IsPlanned rules old witness classes = Then (IsSystem rules classes) (FollowsSystem rules old witness classes)
 
 -- ---- the whole
 
 -- the class files below the input directory, as a set
-abbrev pub FollowsInput : Rules → List ℕ → List FileAt → Result Plan Refusal → Type 0
-FollowsInput rules witness inputs = Then (IsSet rules.in_dir inputs) (IsPlanned rules witness)
+abbrev pub FollowsInput : Rules → Option Mapping → List ℕ → List FileAt → Result Plan Refusal → Type 0
+FollowsInput rules old witness inputs = Then (IsSet rules.in_dir inputs) (IsPlanned rules old witness)
 
 -- the input directory, behind the output directory
-abbrev pub FollowsOutput : Files → List ℕ → Rules → Result Plan Refusal → Type 0
-FollowsOutput files witness rules = Then (IsDirectory files rules.in_dir) (FollowsInput rules witness)
+abbrev pub FollowsOutput : Files → List ℕ → Rules → Option Mapping → Result Plan Refusal → Type 0
+FollowsOutput files witness rules old = Then (IsDirectory files rules.in_dir) (FollowsInput rules old witness)
 
--- both directories, behind the config
+-- both directories, behind the earlier mapping
+abbrev pub FollowsEarlier : Files → List ℕ → Rules → Option Mapping → Result Plan Refusal → Type 0
+FollowsEarlier files witness rules old =
+    Then (IsEmptied files rules.out_dir) (λ done. FollowsOutput files witness rules old)
+
+-- the earlier mapping, if one is applied, behind the config
 abbrev pub FollowsRules : Files → List ℕ → Rules → Result Plan Refusal → Type 0
-FollowsRules files witness rules = Then (IsEmptied files rules.out_dir) (λ done. FollowsOutput files witness rules)
+FollowsRules files witness rules = Then (IsEarlier files rules.apply) (FollowsEarlier files witness rules)
 
 -- what `shrink CONFIG OUTWIT` is to write and to say, or the first refusal
 abbrev pub IsDue : ShrinkFiles → Files → Result Plan Refusal → Type 0

@@ -1,8 +1,9 @@
 // The plan for class files.
-ghost use Rattle.std.specs.Prelude.{◌≡◌, ◌++◌, List, IfOk, Ok, Result};
+ghost use Rattle.std.specs.Prelude.{◌≡◌, ◌++◌, List, IfOk, IfSome, Ok, Result};
 ghost use Rattle.jv_base.specs.Outcome.{IsDue};
 ghost use Rattle.tree_io.specs.declared.file_at.FileAt.{FileAt as FileValue};
 ghost use Rattle.list_texts.specs.declared.limit.TooLong.{TooLong as LongText};
+ghost use Rattle.mapping_file.specs.Mappings.{IsMapping};
 ghost use Rattle.pass_driver.specs.Optimised.{IsOptimisedIf};
 ghost use Rattle.set_shrink.specs.Lists.{lists_due};
 ghost use Rattle.set_shrink.specs.Texts.{texts_beside};
@@ -21,6 +22,7 @@ use command_steps::{requirements, set_of};
 use jv_base::{Items, M, Or, Text};
 use keep_rules::Rules;
 use list_texts::TooLong;
+use mapping_file::Mapping;
 use mark_core::System;
 use mark_words::Marked;
 use pair_laws::named_form::optimised_can_be_written;
@@ -40,15 +42,17 @@ pub fn plan_of<Rt: Threads + Sync, F: Fn(&System) -> M<Marked>>(
     mark: &F,
     alloc: Global,
     rules: &Rules,
+    old: &Option<Mapping>,
     witness: &Text,
     inputs: Items<FileAt>,
 ) -> Result<Plan, Stop>
     requires mark { FindsMarks (F.pre mark.now) (F.post mark.now) }
     requires files { AreClassFiles inputs }
-    ensures { Makes result (FollowsInput rules.now witness.now inputs) }
+    requires names { IfSome old.now IsMapping }
+    ensures { Makes result (FollowsInput rules.now old.now witness.now inputs) }
 {
     let set = set_of(alloc, &rules.in_dir, inputs)?;
-    set_plan(rt, workers, mark, alloc, rules, witness, set)
+    set_plan(rt, workers, mark, alloc, rules, old, witness, set)
 }
 
 /// The plan for a set.
@@ -58,16 +62,18 @@ fn set_plan<Rt: Threads + Sync, F: Fn(&System) -> M<Marked>>(
     mark: &F,
     alloc: Global,
     rules: &Rules,
+    old: &Option<Mapping>,
     witness: &Text,
     set: ClassSet,
 ) -> Result<Plan, Stop>
     requires mark { FindsMarks (F.pre mark.now) (F.post mark.now) }
     requires given { IsGiven set }
-    ensures { Makes result (IsPlanned rules.now witness.now set) }
+    requires names { IfSome old.now IsMapping }
+    ensures { Makes result (IsPlanned rules.now old.now witness.now set) }
 {
     let sys = requirements(alloc, rules, &set)?;
     let marked = mark(&sys)?;
-    kept_plan(rt, workers, alloc, rules, witness, set, &marked)
+    kept_plan(rt, workers, alloc, rules, old, witness, set, &marked)
 }
 
 /// The plan for a set of which the marked items are kept. The lists are made while the set is whole; that one of them
@@ -77,18 +83,20 @@ fn kept_plan<Rt: Threads + Sync>(
     workers: usize,
     alloc: Global,
     rules: &Rules,
+    old: &Option<Mapping>,
     witness: &Text,
     set: ClassSet,
     marked: &Marked,
 ) -> Result<Plan, Stop>
     requires given { IsGiven set }
+    requires names { IfSome old.now IsMapping }
     requires kept { IsKept rules.now set marked.now }
-    ensures { Makes result (FollowsMarks rules.now witness.now set marked.now) }
+    ensures { Makes result (FollowsMarks rules.now old.now witness.now set marked.now) }
 {
     let lists = lists_of(alloc, &set, marked, rules);
     let optimised = optimise_if(rt, workers, alloc, rules.optimise, &set, marked)?;
     codes_plan(
-        rt, workers, alloc, rules, witness, set, marked, optimised, lists,
+        rt, workers, alloc, rules, old, witness, set, marked, optimised, lists,
     )
 }
 
@@ -99,6 +107,7 @@ fn codes_plan<Rt: Threads + Sync>(
     workers: usize,
     alloc: Global,
     rules: &Rules,
+    old: &Option<Mapping>,
     witness: &Text,
     set: ClassSet,
     marked: &Marked,
@@ -106,10 +115,11 @@ fn codes_plan<Rt: Threads + Sync>(
     lists: Result<Items<FileAt>, Or<TooLong>>,
 ) -> Result<Plan, Stop>
     requires given { IsGiven set }
+    requires names { IfSome old.now IsMapping }
     requires kept { IsKept rules.now set marked.now }
     requires optimised { IsOptimisedIf rules.now.optimise marked.now set optimised }
     requires lists { IsDue lists (lists_due set marked.now rules.now) }
-    ensures { Makes result (FollowsCodes rules.now witness.now set marked.now optimised) }
+    ensures { Makes result (FollowsCodes rules.now old.now witness.now set marked.now optimised) }
 {
     optimised_can_be_written();
     let fixed = fixed_names(alloc, rules, &set)?;
@@ -120,7 +130,7 @@ fn codes_plan<Rt: Threads + Sync>(
         fallback,
     } = optimised;
     let classes = with_codes(alloc, set.into_classes(), codes);
-    match shrink_classes(rt, workers, alloc, classes, &fixed, marked, rules) {
+    match shrink_classes(rt, workers, alloc, classes, &fixed, marked, rules, old) {
         Ok(shrunk) => joined(alloc, rules, witness, shrunk, &edits, fallback, lists),
         Err(Or::Fault(limit)) => {
             Err(Stop::Refused(passed_limit(alloc, limit_name(limit), most_written(limit))?))

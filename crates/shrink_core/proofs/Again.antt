@@ -69,7 +69,8 @@ module _ (files : Files) (named : ShrinkFiles) (plan : Plan) (r : IsResult files
 
   judged : IsJudged r.rules texts (record { input = r.inputs; output = written }) (Ok ok_plan)
   judged =
-      let pair = own_pairs pass_laws r.inputs r.classes r.marks r.rules r.optimised r.shrunk written (written_so files named plan r) in
+      let pair = own_pairs pass_laws r.inputs r.classes r.marks r.rules r.old r.optimised r.shrunk written
+      (written_so files named plan r) in
       follows r.classes r.taken
       (follows r.kept.sys
       (sym (ap (or_many r.rules) r.kept.due ∙ ap (λ (b : Bool). or_nothing b r.kept.sys) r.kept.some))

@@ -6,6 +6,7 @@ use Rattle.batch_command.specs.Answer.{Ended}
 use Rattle.batch_command.specs.Batch.{IsDue, batch_of}
 use Rattle.batch_command.specs.Jobs.{AreListed, Parts}
 use Rattle.batch_command.specs.declared.joined.Batch.{Batch as Joined}
+use Rattle.batch_command.specs.declared.work.JobConfig.{JobConfig}
 use Rattle.batch_list.specs.declared.line.JobFiles.{JobFiles}
 use Rattle.command_frame.specs.Output.{Outside}
 use Rattle.command_frame.specs.Steps.{Then}
@@ -13,18 +14,25 @@ use Rattle.command_frame.specs.declared.command.Plan.{Plan}
 use Rattle.command_frame.specs.declared.refusal.Refusal.{Refusal}
 use Rattle.command_steps.specs.Config.{IsConfigApart}
 use Rattle.command_steps.specs.Sets.{IsDirectory}
+use Rattle.command_steps.specs.Texts.{IsEarlier}
+use Rattle.keep_rules.specs.declared.rules.Rules.{Rules}
 use Rattle.command_words.specs.declared.batch.Batch.{Batch}
 use Rattle.shrink_command.specs.Due as shrink
 use Rattle.shrink_command.specs.Due.{FollowsInput, IsEmptied}
 use Rattle.shrink_command.specs.declared.command.ShrinkFiles.{ShrinkFiles}
 use Rattle.shrink_core.specs.Commands.{SaysAtOnce}
 
--- the steps of `shrink` up to its config, up to its class files, and behind them
+-- a job with what its config says, and the earlier mapping that it applies
+abbrev pub IsApplied : Files → JobFiles → Rules → Result JobConfig Refusal → Type 0
+IsApplied files job rules = Then (IsEarlier files rules.apply)
+    (λ earlier due. due ≡ Ok (record { files = job; rules = rules; earlier = earlier }))
+
+-- the steps of `shrink` up to its config and earlier mapping, up to its class files, and behind them
 abbrev pub shrink_parts : Parts
 shrink_parts = record {
-  config = λ files job. IsConfigApart files job.config job.witness;
+  config = λ files job. Then (IsConfigApart files job.config job.witness) (IsApplied files job);
   input = λ files rules. Then (IsEmptied files rules.out_dir) (λ done. IsDirectory files rules.in_dir);
-  plan = λ job. FollowsInput job.config.rules job.config.files.witness job.inputs;
+  plan = λ job. FollowsInput job.config.rules job.config.earlier job.config.files.witness job.inputs;
 }
 
 -- what was done for the batch that words ask for, whatever the number of workers; other words are refused

@@ -5,16 +5,18 @@ ghost use Rattle.mark_core.specs.Marks.{Marks};
 ghost use Rattle.mark_core.specs.Valid.{Valid};
 ghost use Rattle.tree_io.specs.Count.{Rose};
 ghost use Rattle.tree_io.specs.Runs.{memory_faults};
+ghost use Rattle.batch_command.specs.Jobs.{HasNames};
 ghost use Rattle.command_frame.specs.Output.{outside, output};
+ghost use Rattle.command_frame.specs.Steps.{Finds, seen};
 ghost use Rattle.command_words.specs.Batch.{batch_commanded};
 ghost use Rattle.shrink_command.specs.Marking.{FindsMarks};
-ghost use Rattle.shrink_core.specs.Batches.{DoesBatch, RanBatch, shrink_parts};
+ghost use Rattle.shrink_core.specs.Batches.{DoesBatch, IsApplied, RanBatch, shrink_parts};
 
 use crate::command::{MOST_WORKERS, refuse_words};
-use batch_command::{JobInput, Work, run_jobs};
+use batch_command::{JobConfig, JobInput, Work, run_jobs};
 use batch_list::JobFiles;
 use command_frame::{Plan, Stop, say_no_memory};
-use command_steps::{find_config_apart, find_files};
+use command_steps::{find_config_apart, find_earlier, find_files};
 use command_words::{Batch, read_batch};
 use jv_base::{Items, M, Text};
 use keep_rules::Rules;
@@ -45,10 +47,11 @@ impl<'r, Rt: Threads + Sync, F: Fn(&System) -> M<Marked>> Work for Shrinks<'r, R
     fn find_config<T: Tree>(
         &self,
         alloc: Global,
-        job: &JobFiles,
+        job: JobFiles,
         tree: &mut T,
-    ) -> Result<Rules, Stop> {
-        find_config_apart(alloc, &job.config, &job.witness, tree)
+    ) -> Result<JobConfig, Stop> {
+        let rules = find_config_apart(alloc, &job.config, &job.witness, tree)?;
+        find_applied(alloc, job, rules, tree)
     }
 
     fn find_input<T: Tree>(
@@ -69,10 +72,31 @@ impl<'r, Rt: Threads + Sync, F: Fn(&System) -> M<Marked>> Work for Shrinks<'r, R
             &self.mark,
             alloc,
             &config.rules,
+            &config.earlier,
             &config.files.witness,
             inputs,
         )
     }
+}
+
+/// The config of a job with these rules, and the earlier mapping that they name.
+fn find_applied<T: Tree>(
+    alloc: Global,
+    files: JobFiles,
+    rules: Rules,
+    tree: &mut T,
+) -> Result<JobConfig, Stop>
+    ensures names { IfOk result HasNames }
+    ensures found { Finds result (λ fs. IsApplied fs files rules)
+        (seen (T.files tree.old) (T.faults tree.old) (T.log tree.old))
+        (seen (T.files tree.new) (T.faults tree.new) (T.log tree.new)) }
+{
+    let earlier = find_earlier(alloc, &rules.apply, tree)?;
+    Ok(JobConfig {
+        files,
+        rules,
+        earlier,
+    })
 }
 
 /// Runs a batch and answers the status with which the program ends. The words are read by `read_batch` of

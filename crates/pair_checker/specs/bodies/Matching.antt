@@ -39,7 +39,8 @@ no_at clause place = record { clause = clause; class = Some place.class; member 
 -- the clauses that are tested of a pair that was read, in their order
 abbrev pub tested_clauses : List Clause
 tested_clauses = clause.MapShape ∷ (clause.FixedName ∷ (clause.Package ∷ (clause.SeedLost ∷ (clause.NotClosed
-    ∷ (clause.MemberDiffers ∷ (clause.WitnessStray ∷ (clause.EditIllegal ∷ (clause.CodeDiffers ∷ []))))))))
+    ∷ (clause.MemberDiffers ∷ (clause.WitnessStray ∷ (clause.EditIllegal ∷ (clause.CodeDiffers
+    ∷ (clause.LineRange ∷ [])))))))))
 
 -- the files of an output are a set of classes, or why they are none
 abbrev pub ReadsOutput : Result (List Class) (Or No) → List FileAt → Type 0

@@ -91,7 +91,8 @@ module _ (input edited output : List Class) (mapping : Mapping) (rules : Rules) 
       weaker (m ∷ ms) [] zip = absurd zip
       weaker (m ∷ ms) (o ∷ os) zip = (have_codes m.code o.code zip.0, weaker ms os zip.1)
 
-  back : (fs gs : List Frame) → AllZip (IsRetraced edited mapping) fs gs → AllZip (IsRetraced input mapping) fs gs
+  back : (fs gs : List Frame) → AllZip (IsRetraced edited output mapping) fs gs
+      → AllZip (IsRetraced input output mapping) fs gs
   back [] [] zip = tt
   back [] (g ∷ gs) zip = absurd zip
   back (f ∷ fs) [] zip = absurd zip
@@ -99,7 +100,7 @@ module _ (input edited output : List Class) (mapping : Mapping) (rules : Rules) 
       (λ code. zip.0 (views_are HaveCodes refl input edited h.alike coded f.method ∙ code), back fs gs zip.1)
 
   are_retraced : (s t : State) → Corr (view_of input) (view_of output) (pair_names input mapping) s t
-      → AllZip (IsRetraced input mapping) (frames s) (frames t)
+      → AllZip (IsRetraced input output mapping) (frames s) (frames t)
   are_retraced s t corr = back (frames s) (frames t)
       (frames_named edited output mapping rules edited_taken then_taken pair (frames s) (frames t)
       (named (frames s) (frames t) corr.stack))

@@ -43,14 +43,15 @@ use Rattle.pair_laws.proofs.OwnLines.Closing.{no_item_lacks, no_seed_lost}
 use Rattle.pair_laws.proofs.OwnLines.Whole.{lines_told, own_lines}
 use Rattle.pair_laws.proofs.OwnShape.Fits.{mapping_fits}
 use Rattle.pair_laws.proofs.OwnShape.Names.{mapping_tells}
-use Rattle.pair_laws.proofs.SwappedPairs.Clauses.{fixed_same, given_same, package_same, shape_same}
+use Rattle.pair_laws.proofs.SwappedPairs.Clauses.{fixed_same, given_same, package_same, range_same, shape_same}
 use Rattle.pair_laws.proofs.SwappedPairs.Members.{had_too, have_too, members_again}
 
 -- what is marked has a name
 named_so : (b : Bool) (new : List ℕ) (o : Option (List ℕ)) → o ≡ name_if b new → b ≡ true → is_some o ≡ true
 named_so b new o is marked = ap is_some (is ∙ ap (λ (x : Bool). name_if x new) marked)
 
-module _ (legal : FindsLegal) (classes : List Class) (marks : List Bool) (rules : Rules) (o : Optimised)
+module _ (legal : FindsLegal) (classes : List Class) (marks : List Bool) (rules : Rules) (old : Option Mapping)
+    (o : Optimised)
     (taken : IsTaken classes) (typed : AreTyped classes)
     (swapped : IsSwapped classes (with_codes o.codes classes))
     (g : AreEdited marks classes o.codes o.witness.methods)
@@ -59,10 +60,10 @@ module _ (legal : FindsLegal) (classes : List Class) (marks : List Bool) (rules 
   new = with_codes o.codes classes
 
   abbrev left : List Class
-  left = left_of new marks rules
+  left = left_of new marks rules old
 
   abbrev mapping : Mapping
-  mapping = own_mapping new marks rules
+  mapping = own_mapping new marks rules old
 
   abbrev given : List ClassNames
   given = given_names mapping classes
@@ -74,11 +75,11 @@ module _ (legal : FindsLegal) (classes : List Class) (marks : List Bool) (rules 
     count = count ∙ sym (count_too classes new swapped);
   }
 
-  told : IsToldByMarks (new_names new marks rules) new marks mapping
-  told = lines_told new marks rules marked
+  told : IsToldByMarks (new_names new marks rules old) new marks mapping
+  told = lines_told new marks rules old marked
 
   of_new : IsPairButShape new left mapping rules
-  of_new = own_lines new marks rules marked (mapping_tells new marks rules)
+  of_new = own_lines new marks rules old marked (mapping_tells new marks rules old)
 
   -- ---- lines
 
@@ -106,7 +107,7 @@ module _ (legal : FindsLegal) (classes : List Class) (marks : List Bool) (rules 
       λ i. item_is d.spot.class i + 1
       + ((fields ∙ ap (λ (x : Class). length x.fields) (sym class_is)) i + d.spot.method) in
       named_so (is_marked marks (class_item new d.spot.class + 1 + (length put.class.fields + d.spot.method)))
-      ((new_names new marks rules).method d.method.name (method_text d.method.ty))
+      ((new_names new marks rules old).method d.method.name (method_text d.method.ty))
       (new_method mapping d.class d.method)
       (ap (λ (name : List ℕ). new_method mapping (record d.class { name = name }) d.method) (sym put.named)
       ∙ told.method d.spot.class put.class put.in_set d.spot.method _ put.in_class)
@@ -122,7 +123,7 @@ module _ (legal : FindsLegal) (classes : List Class) (marks : List Bool) (rules 
   pub none : (c : Clause) → Finds classes left mapping rules o.witness c None
   none clause.OutputFormat = refl
   none clause.OutputProfile = refl
-  none clause.MapShape = mapping_fits new marks rules marked.taken ∙ shape_same classes new swapped.alike left mapping
+  none clause.MapShape = mapping_fits new marks rules old marked.taken ∙ shape_same classes new swapped.alike left mapping
   none clause.FixedName = of_new.fixed ∙ fixed_same classes new swapped.alike mapping rules
   none clause.Package = of_new.packages ∙ package_same classes new swapped.alike mapping
   none clause.SeedLost = no_seed_lost classes given (required classes rules) marks closed items
@@ -135,3 +136,4 @@ module _ (legal : FindsLegal) (classes : List Class) (marks : List Bool) (rules 
       none_differs mapping (filter_of rules) left _ new
       (sets_alike legal marks classes o.codes o.witness.methods taken typed g) given
       (subst (λ (x : List ClassNames). CodeDiffers mapping (filter_of rules) new x left None) given_is of_new.codes)
+  none clause.LineRange = of_new.ranges ∙ range_same classes new swapped.alike mapping left

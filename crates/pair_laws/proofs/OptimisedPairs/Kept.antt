@@ -26,12 +26,12 @@ fixed_too a b swapped rules (Some taken) h =
     (h.0, subst (λ (stay : Stay). StaySo taken stay) (sym (stay_same a b swapped.alike rules)) h.1)
 
 pub keeps_writable : PassLaws → OptimisedKeepsWritable
-keeps_writable laws classes rules marks o taken typed closed all optimised =
+keeps_writable laws classes rules old marks o has taken typed closed all optimised =
     let new = with_codes o.codes classes in
     let swapped = swapped_if laws marks classes o taken typed rules.optimise optimised in
     let edited = edited_if laws marks classes o taken typed rules.optimise optimised in
     record {
-      writable = kept_writable new rules marks (linked_set new (swap_keeps_taken classes new swapped taken))
+      writable = kept_writable new rules old marks has (linked_set new (swap_keeps_taken classes new swapped taken))
           (closed_too classes new swapped rules marks closed)
           (all_writable marks classes o.codes o.witness.methods taken edited swapped all);
       count = count_too classes new swapped;

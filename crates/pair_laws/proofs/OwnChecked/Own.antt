@@ -1,9 +1,10 @@
 -- What is written of a set is found again.
-use Rattle.std.proofs.Common.{◌≡◌, ◌≢◌, ◌⊎◌, inl, inr, ℕ, ◌||◌, Bool, true, false, List, [], ◌∷◌, ◌++◌, map}
+use Rattle.std.proofs.Common.{◌≡◌, ◌≢◌, ◌⊎◌, inl, inr, ℕ, ◌||◌, Bool, true, false, List, [], ◌∷◌, ◌++◌, map, Option}
 use Rattle.std.proofs.Common.{Ok, Some, sym, ap, ◌∙◌}
 use Rattle.std.specs.FinMap.{get, insert, keys}
 use Rattle.std.specs.List.{AllByRecursion, list_any}
 use Rattle.std.proofs.lemmas.Bool.{or_parts}
+use Rattle.mapping_file.specs.declared.mapping.Mapping.{Mapping}
 use Rattle.jv_base.specs.Names.{is_text}
 use Rattle.jv_base.proofs.Lists.{all_append}
 use Rattle.tree_io.specs.Below.{paths_below}
@@ -107,15 +108,16 @@ is_apart_from config rules witness apart =
 -- ---- the whole
 
 module _ (laws : PassLaws) (files : List FileAt) (classes : List Class) (marks : List Bool) (rules : Rules)
-    (o : Optimised) (set : ShrunkSet) (written : List FileAt) (h : AreWritten files classes marks rules o set written)
-    (old : Files) (config witness : List ℕ) (texts : List FileAt) (empty : paths_below rules.out_dir (keys old) ≡ [])
+    (old : Option Mapping) (o : Optimised) (set : ShrunkSet) (written : List FileAt)
+    (h : AreWritten files classes marks rules old o set written)
+    (there : Files) (config witness : List ℕ) (texts : List FileAt) (empty : paths_below rules.out_dir (keys there) ≡ [])
     (apart : paths_meet rules witness ≡ false) (clear : meets_config config rules witness ≡ false)
     (told : texts_due set.mapping o.witness classes marks rules witness ≡ Ok texts) where
   abbrev new : Files
-  new = put_all old (set.files ++ texts)
+  new = put_all there (set.files ++ texts)
 
   abbrev classes_put : Files
-  classes_put = put_all old set.files
+  classes_put = put_all there set.files
 
   abbrev mapping_at : FileAt
   mapping_at = record { path = rules.mapping; bytes = mapping_text set.mapping }
@@ -133,7 +135,7 @@ module _ (laws : PassLaws) (files : List FileAt) (classes : List Class) (marks :
   own = is_apart_from config rules witness clear
 
   new_is : new ≡ put_all classes_put texts
-  new_is = put_both old set.files texts
+  new_is = put_both there set.files texts
 
   -- the directories
 
@@ -143,8 +145,8 @@ module _ (laws : PassLaws) (files : List FileAt) (classes : List Class) (marks :
     all_elsewhere rules.out_dir texts (ap (list_any (meets_file rules.out_dir)) are.paths ∙ paths.from_output),
   )
 
-  input : input_due new rules.in_dir ≡ input_due old rules.in_dir
-  input = elsewhere_same old rules.in_dir (set.files ++ texts)
+  input : input_due new rules.in_dir ≡ input_due there rules.in_dir
+  input = elsewhere_same there rules.in_dir (set.files ++ texts)
       (all_append (IsElsewhere rules.in_dir) set.files texts
       (other_directory rules.in_dir rules.out_dir paths.directories.no_text paths.directories.not_below
       paths.directories.not_above set.files written h.below) elsewhere.0)
@@ -153,17 +155,17 @@ module _ (laws : PassLaws) (files : List FileAt) (classes : List Class) (marks :
       → (input_due new rules.out_dir ≡ Ok written) ⊎ PassesInputLimit new rules.out_dir
   output_by (inr limit) = inr limit
   output_by (inl given) =
-      inl (given.1 ∙ ap Ok (files_found files classes marks rules o set written h old texts empty elsewhere.1 given.0
+      inl (given.1 ∙ ap Ok (files_found files classes marks rules old o set written h there texts empty elsewhere.1 given.0
       given.1))
 
   -- the config
 
-  config_put : get new config ≡ get old config
+  config_put : get new config ≡ get there config
   config_put =
       stays_at config (set.files ++ texts)
       (all_append (λ (f : FileAt). config ≢ f.path) set.files texts
       (none_below rules.out_dir config own.not_below set.files written h.below)
-      (none_of config texts (ap (list_any (is_text config)) are.paths ∙ own.no_text))) old
+      (none_of config texts (ap (list_any (is_text config)) are.paths ∙ own.no_text))) there
 
   -- the mapping and the witness
 
@@ -196,17 +198,17 @@ module _ (laws : PassLaws) (files : List FileAt) (classes : List Class) (marks :
   has_mapping = (
     mapping_text set.mapping,
     record { there = mapping_stands; short = are.short },
-    own_mapping_is_read laws files classes marks rules o set written h,
+    own_mapping_is_read laws files classes marks rules old o set written h,
   )
 
   has_witness : HasWitness new witness o.witness
   has_witness = (
     witness_text o.witness,
     record { there = witness_stands; short = are.edits_short },
-    (own_witness_is_read laws files classes marks rules o set written h).1,
+    (own_witness_is_read laws files classes marks rules old o set written h).1,
   )
 
-  found_again : IsFoundAgain old new config witness rules set.mapping o.witness written
+  found_again : IsFoundAgain there new config witness rules set.mapping o.witness written
   found_again = record {
     config_stays = config_put;
     mapping_is = has_mapping;
@@ -216,5 +218,5 @@ module _ (laws : PassLaws) (files : List FileAt) (classes : List Class) (marks :
   }
 
 pub files_found_again : PassLaws → OwnFilesAreFoundAgain
-files_found_again laws files classes marks rules o set written h old config witness texts empty apart clear told =
-    found_again laws files classes marks rules o set written h old config witness texts empty apart clear told
+files_found_again laws files classes marks rules old o set written h there config witness texts empty apart clear told =
+    found_again laws files classes marks rules old o set written h there config witness texts empty apart clear told

@@ -1,5 +1,5 @@
 -- The class of the output with the new name of a class that is marked is what that class has become.
-use Rattle.std.proofs.Common.{◌≡◌, ℕ, zero, suc, ◌||◌, Bool, true, false, cond, List, [], ◌∷◌, Some, slice_get}
+use Rattle.std.proofs.Common.{◌≡◌, ℕ, zero, suc, ◌||◌, Bool, true, false, cond, List, [], ◌∷◌, Option, Some, slice_get}
 use Rattle.std.proofs.Common.{inr, refl, sym, ap, ◌∙◌}
 use Rattle.std.specs.Prelude.{IsPermutation}
 use Rattle.std.specs.List.{Contains, position}
@@ -33,6 +33,8 @@ use Rattle.rename_map.specs.Fixed.{names_that_stay}
 use Rattle.rename_map.specs.Names.{given_beside}
 use Rattle.set_shrink.specs.Order.{in_order}
 use Rattle.set_shrink.specs.ShrunkSet.{left_of, new_names, renamed_of}
+use Rattle.mapping_file.specs.declared.mapping.Mapping.{Mapping}
+use Rattle.new_names.specs.NewNames.{tables_of}
 use Rattle.pair_laws.proofs.NamedForm.Written.{all_written}
 use Rattle.pair_clauses.specs.Shape.{number_of}
 use Rattle.pair_laws.proofs.PairSame.Expected.{numbered_class}
@@ -87,26 +89,26 @@ among (d ∷ cs) (suc k) c at = or_right (is_text c.name d.name) (is_taken (clas
 
 -- ---- what is written
 
-module _ (classes : List Class) (marks : List Bool) (rules : Rules) (taken : IsTaken classes)
+module _ (classes : List Class) (marks : List Bool) (rules : Rules) (old : Option Mapping) (taken : IsTaken classes)
     (closed : Closed (required classes rules) (set_of marks)) where
   abbrev names : Names
-  names = new_names classes marks rules
+  names = new_names classes marks rules old
 
   abbrev kept : List Class
   kept = shrunk classes marks
 
   abbrev all_renamed : List Class
-  all_renamed = renamed_of classes marks rules
+  all_renamed = renamed_of classes marks rules old
 
   abbrev left : List Class
-  left = left_of classes marks rules
+  left = left_of classes marks rules old
 
   -- what a class becomes
   abbrev pub become : ℕ → Class → Class
   become n c = filtered (filter_of rules) (renamed names (f classes marks n c))
 
   same_elements : IsPermutation all_renamed (in_order all_renamed)
-  same_elements = all_written classes rules marks
+  same_elements = all_written classes rules old marks
       (record { files = taken.files; ascend = taken.ascend; built = taken.built; linked = taken.linked })
 
   -- no two kept classes get one name
@@ -114,10 +116,11 @@ module _ (classes : List Class) (marks : List Bool) (rules : Rules) (taken : IsT
       → names.class a ≡ names.class b → a ≡ b
   one_name a b h k same = by rules.obfuscate same
     where
-      by : (t : Bool) → (cond t (given_beside (names_that_stay rules classes) kept) same_names).class a
-          ≡ (cond t (given_beside (names_that_stay rules classes) kept) same_names).class b → a ≡ b
+      by : (t : Bool) → (cond t (given_beside (names_that_stay rules classes) (tables_of old) kept) same_names).class a
+          ≡ (cond t (given_beside (names_that_stay rules classes) (tables_of old) kept) same_names).class b → a ≡ b
       by true same =
-          classes_differ (names_that_stay rules classes).classes (class_names kept) a b (inr h) (inr k) same
+          classes_differ (tables_of old).classes (names_that_stay rules classes).classes (class_names kept) a b (inr h)
+          (inr k) same
       by false same = same
 
   -- what is written comes of a class whose name is kept
@@ -172,11 +175,11 @@ module _ (classes : List Class) (marks : List Bool) (rules : Rules) (taken : IsT
     -- and nothing else has its name
     only : (d : Class) → Comes d → d.name ≡ names.class c.name → d ≡ become n c
     only d o same =
-        let old : o.class.name ≡ c.name =
+        let name : o.class.name ≡ c.name =
         one_name o.class.name c.name o.named
         (among kept (rank (p classes marks) 0 n) (f classes marks n c) kept_at)
         (sym (ap (λ (x : Class). x.name) o.is) ∙ same) in
-        let own : o.n ≡ n = one_class classes taken n c at o.n o.class o.there old in
+        let own : o.n ≡ n = one_class classes taken n c at o.n o.class o.there name in
         let class : o.class ≡ c = same_Some o.class c (sym o.there ∙ ap (slice_get classes) own ∙ at) in
         o.is ∙ ap (λ (i : ℕ). become i o.class) own ∙ ap (become n) class
 

@@ -128,40 +128,40 @@ neither a b c d first second =
     ap (λ (n : ℕ). nat_lt a n || nat_lt c d) (sym first) ∙ ap (λ (t : Bool). t || nat_lt c d) (not_below a)
     ∙ ap (λ (n : ℕ). nat_lt c n) (sym second) ∙ not_below c
 
-module _ (classes : List Class) (marks : List Bool) (rules : Rules) (taken : IsTaken classes)
+module _ (classes : List Class) (marks : List Bool) (rules : Rules) (old : Option Mapping) (taken : IsTaken classes)
     (closed : Closed (required classes rules) (set_of marks)) (mapping : Mapping)
-    (lines : IsToldByMarks (new_names classes marks rules) classes marks mapping)
-    (told : names_of mapping ≡ new_names classes marks rules) where
+    (lines : IsToldByMarks (new_names classes marks rules old) classes marks mapping)
+    (told : names_of mapping ≡ new_names classes marks rules old) where
   abbrev names : Names
-  names = new_names classes marks rules
+  names = new_names classes marks rules old
 
   abbrev filter : AttributeFilter
   filter = filter_of rules
 
   abbrev left : List Class
-  left = left_of classes marks rules
+  left = left_of classes marks rules old
 
   module _ (n : ℕ) (c : Class) (at : slice_get classes n ≡ Some c) where
-    abbrev given : ClassNames
+    abbrev pub given : ClassNames
     given = names_given mapping c
 
-    abbrev out : Class
-    out = become classes marks rules taken closed n c
+    abbrev pub out : Class
+    out = become classes marks rules old taken closed n c
 
     abbrev first_field : ℕ
     first_field = class_item classes n + 1
 
-    abbrev first_method : ℕ
+    abbrev pub first_method : ℕ
     first_method = class_item classes n + 1 + length c.fields
 
-    abbrev marked : ℕ → Bool
+    abbrev pub marked : ℕ → Bool
     marked = is_marked marks
 
     fields_given : AreGiven marked (new_field mapping c) (λ (x : Field). names.field x.name) (renamed_field names)
         (field_filtered filter) first_field c.fields
     fields_given k x there = lines.field n c at k x there
 
-    methods_given : AreGiven marked (new_method mapping c) (λ (x : Method). names.method x.name (method_text x.ty))
+    pub methods_given : AreGiven marked (new_method mapping c) (λ (x : Method). names.method x.name (method_text x.ty))
         (renamed_method names) (method_filtered filter) first_method c.methods
     methods_given k x there =
         let place : first_field + (length c.fields + k) ≡ first_method + k = omega arith in
@@ -173,7 +173,7 @@ module _ (classes : List Class) (marks : List Bool) (rules : Rules) (taken : IsT
     fields_become = ap (λ (xs : List Field). map (field_filtered filter) (map (renamed_field names) xs))
         (sym (as_filter marked (λ k x. x) first_field c.fields))
 
-    methods_become : map (method_filtered filter)
+    pub methods_become : map (method_filtered filter)
         (map (renamed_method names) (kept_of marked (λ k x. x) first_method c.methods)) ≡ out.methods
     methods_become = ap (λ (xs : List Method). map (method_filtered filter) (map (renamed_method names) xs))
         (sym (as_filter marked (λ k x. x) first_method c.methods))
@@ -219,13 +219,13 @@ module _ (classes : List Class) (marks : List Bool) (rules : Rules) (taken : IsT
     abbrev new_by : Option (List ℕ) → Option Class
     new_by name = option_and_then (λ new. option_and_then (λ k. slice_get left k) (number_of left new)) name
 
-    new_marked : marked (class_item classes n) ≡ true → new_one left given ≡ Some out
+    pub new_marked : marked (class_item classes n) ≡ true → new_one left given ≡ Some out
     new_marked h =
-        let found = found_new classes marks rules taken closed n c at h in
+        let found = found_new classes marks rules old taken closed n c at h in
         ap new_by (lines.class n c at ∙ ap (λ (b : Bool). name_if b (names.class c.name)) h)
         ∙ ap (option_and_then (λ k. slice_get left k)) found.1 ∙ found.2
 
-    new_unmarked : marked (class_item classes n) ≡ false → new_one left given ≡ None
+    pub new_unmarked : marked (class_item classes n) ≡ false → new_one left given ≡ None
     new_unmarked h = ap new_by (lines.class n c at ∙ ap (λ (b : Bool). name_if b (names.class c.name)) h)
 
     class_alike : LinedDiffers mapping filter c given (new_one left given) None

@@ -130,6 +130,36 @@ module _ {A B C : Type 0} (p : ℕ → Bool) (given : A → Option (List ℕ)) (
         by false None e r = r
         by false (Some name) e r = absurd cc
 
+  module _ (fault : (A × List ℕ) × C → Option Place) where
+    -- and none is at fault with what it has become, where none that passes is
+    pub none_at_fault : (n : ℕ) (xs : List A) → AreGiven n xs
+        → ((k : ℕ) (x : A) → slice_get xs k ≡ Some x → p (n + k) ≡ true → fault ((x, new x), then (first x)) ≡ None)
+        → first_place fault (zip (expected xs) (become n xs)) ≡ None
+    none_at_fault n [] told none = refl
+    none_at_fault n (x ∷ xs) told none =
+        by (p n) refl (given x) (given_here n x xs told)
+        (none_at_fault (n + 1) xs (given_behind n x xs told) (λ k y at passes. none (suc k) y at (ap p (next k) ∙ passes)))
+      where
+        start : n + 0 ≡ n
+        start = omega arith
+
+        next : (k : ℕ) → n + suc k ≡ n + 1 + k
+        next k = omega arith
+
+        rest : Option Place
+        rest = first_place fault (zip (expected xs) (become (n + 1) xs))
+
+        by : (b : Bool) → p n ≡ b → (o : Option (List ℕ)) → o ≡ cond b (Some (new x)) None
+            → first_place fault (zip (expected xs) (become (n + 1) xs)) ≡ None
+            → first_place fault (zip (cons_option (option_map (λ name. (x, name)) o) (expected xs))
+            (becomes_if b x (n + 1) xs)) ≡ None
+        by true h None e r = absurd cc
+        by true h (Some name) e r =
+            ap (λ (t : List ℕ). option_or (fault ((x, t), then (first x))) rest) (same_Some name (new x) e)
+            ∙ ap (λ (o : Option Place). option_or o rest) (none 0 x refl (ap p start ∙ h)) ∙ r
+        by false h None e r = r
+        by false h (Some name) e r = absurd cc
+
 -- ---- searches that find nothing
 
 -- no element is at fault with what it is given

@@ -32,10 +32,11 @@ use Rattle.mapping_file.specs.declared.mapping.MapClass.{MapClass}
 use Rattle.mapping_file.specs.declared.mapping.MapField.{MapField}
 use Rattle.mapping_file.specs.declared.mapping.MapMethod.{MapMethod}
 use Rattle.mapping_file.specs.declared.mapping.Mapping.{Mapping}
+use Rattle.mapping_file.specs.declared.mapping.Range.{Range}
 use Rattle.class_rename.specs.Names.{Names}
 use Rattle.rename_map.specs.MappingOf as made
 use Rattle.new_names.specs.NewNames.{NameAndType, class_line, field_in as field_told, is_same, method_in as method_told}
-use Rattle.new_names.specs.NewNames.{new_class, new_field, new_method}
+use Rattle.new_names.specs.NewNames.{new_class, new_field, new_method, range_in}
 use Rattle.pair_laws.specs.OwnLines.Laws.{name_if}
 use Rattle.pair_laws.proofs.OwnLines.Picked.{one_found}
 
@@ -92,17 +93,17 @@ module _ (names : Names) (lines : Bool) (classes : List Class) (marks : List Boo
   abbrev mapping : Mapping
   mapping = made.mapping_of names lines (shrunk classes marks)
 
-  abbrev marked : ℕ → Bool
+  abbrev pub marked : ℕ → Bool
   marked = p classes marks
 
   -- the line of a class that is kept
-  abbrev line : ℕ → Class → MapClass
+  abbrev pub line : ℕ → Class → MapClass
   line n c = made.class_lines names lines (f classes marks n c)
 
   zero_plus : (n : ℕ) → 0 + n ≡ n
   zero_plus n = omega arith
 
-  line_told : (n : ℕ) (c : Class) → slice_get classes n ≡ Some c
+  pub line_told : (n : ℕ) (c : Class) → slice_get classes n ≡ Some c
       → class_line mapping c.name ≡ cond (marked n) (Some (line n c)) None
   line_told n c at =
       ap (lookup test) (map-map (λ (l : MapClass). (l.old, l)) (made.class_lines names lines) (shrunk classes marks))
@@ -161,6 +162,26 @@ module _ (names : Names) (lines : Bool) (classes : List Class) (marks : List Boo
 
         entry : Method → NameAndType × List ℕ
         entry y = ((y.name, method_text y.ty), names.method y.name (method_text y.ty))
+
+    -- the range that is told of a method that is kept
+    pub range_told : (k : ℕ) (x : Method) → slice_get c.methods k ≡ Some x → is_marked marks (first_method + k) ≡ true
+        → range_in (line n c) x ≡ (made.method_line names lines x).lines
+    range_told k x there kept =
+        ap (λ o. option_and_then (λ (r : Option Range). r) o)
+        (ap (lookup test) (map-map (λ (l : MapMethod). ((l.old, method_text l.ty), l.lines))
+        (made.method_line names lines) (chosen marks first_method c.methods))
+        ∙ ap (λ (ys : List Method). lookup test (map entry ys))
+        (as_filter (is_marked marks) (λ k x. x) first_method c.methods)
+        ∙ one_found (is_marked marks) (λ k x. x) entry test
+        (λ (y : Method). is_same (y.name, method_text y.ty) (x.name, method_text x.ty)) (λ n x. refl) first_method
+        c.methods k x there (same_itself (x.name, method_text x.ty)) (one_method classes taken n c at k x there)
+        ∙ ap (λ (b : Bool). cond b (Some (made.method_line names lines x).lines) None) kept)
+      where
+        test : NameAndType → Bool
+        test key = is_same key (x.name, method_text x.ty)
+
+        entry : Method → NameAndType × Option Range
+        entry y = ((y.name, method_text y.ty), (made.method_line names lines y).lines)
 
     -- what a line tells, where a member that is marked has its class
     by_line : {X : Type 0} (tell : MapClass → Option X) (kept : Bool) (new : X) → (kept ≡ true → marked n ≡ true)

@@ -1,5 +1,5 @@
 -- What is written of a set agrees with it in each clause but MapShape.
-use Rattle.std.proofs.Common.{◌≡◌, ℕ, ◌+◌, Bool, List, length, Some, slice_get}
+use Rattle.std.proofs.Common.{◌≡◌, ℕ, ◌+◌, Bool, List, length, Option, Some, slice_get}
 use Rattle.jv_base.specs.Types.{method_text}
 use Rattle.class_model.specs.declared.class.Class.{Class}
 use Rattle.class_model.specs.declared.class.Field.{Field}
@@ -20,14 +20,16 @@ use Rattle.pair_laws.proofs.OwnLines.Closing.{no_item_lacks, no_seed_lost}
 use Rattle.pair_laws.proofs.OwnLines.Fixed.{no_name_differs, no_package_differs}
 use Rattle.pair_laws.proofs.OwnLines.Items.{lined_marks}
 use Rattle.pair_laws.proofs.OwnLines.Members.{no_code_differs, no_member_differs}
+use Rattle.pair_laws.proofs.OwnLines.Ranges.{no_range_left}
 use Rattle.pair_laws.proofs.OwnLines.Told.{class_is_told, field_is_told, method_is_told}
 
-module _ (classes : List Class) (marks : List Bool) (rules : Rules) (set : IsMarkedSet classes marks rules) where
+module _ (classes : List Class) (marks : List Bool) (rules : Rules) (old : Option Mapping)
+    (set : IsMarkedSet classes marks rules) where
   abbrev names : Names
-  names = new_names classes marks rules
+  names = new_names classes marks rules old
 
   abbrev mapping : Mapping
-  mapping = own_mapping classes marks rules
+  mapping = own_mapping classes marks rules old
 
   abbrev lines : Bool
   lines = (filter_of rules).line_numbers
@@ -49,24 +51,25 @@ module _ (classes : List Class) (marks : List Bool) (rules : Rules) (set : IsMar
       method_is_told names lines classes marks set.taken n c at rules set.closed k x there
 
 pub lines_told : LinesAreToldByMarks
-lines_told classes marks rules set = record {
-  class = class_told classes marks rules set;
-  field = field_told classes marks rules set;
-  method = method_told classes marks rules set;
-  items = lined_marks (new_names classes marks rules) (own_mapping classes marks rules) classes marks
-      (class_told classes marks rules set) (field_told classes marks rules set) (method_told classes marks rules set)
-      set.count;
+lines_told classes marks rules old set = record {
+  class = class_told classes marks rules old set;
+  field = field_told classes marks rules old set;
+  method = method_told classes marks rules old set;
+  items = lined_marks (new_names classes marks rules old) (own_mapping classes marks rules old) classes marks
+      (class_told classes marks rules old set) (field_told classes marks rules old set)
+      (method_told classes marks rules old set) set.count;
 }
 
 pub own_lines : OwnLines
-own_lines classes marks rules set names_told =
-    let mapping = own_mapping classes marks rules in
-    let told = lines_told classes marks rules set in
+own_lines classes marks rules old set names_told =
+    let mapping = own_mapping classes marks rules old in
+    let told = lines_told classes marks rules old set in
     record {
-      fixed = no_name_differs classes (shrunk classes marks) rules marks mapping told;
-      packages = no_package_differs classes (shrunk classes marks) rules marks mapping told;
+      fixed = no_name_differs classes (shrunk classes marks) rules old marks mapping told;
+      packages = no_package_differs classes (shrunk classes marks) rules old marks mapping told;
       seeds = no_seed_lost classes (given_names mapping classes) (required classes rules) marks set.closed told.items;
       closed = no_item_lacks classes (given_names mapping classes) (required classes rules) marks set.closed told.items;
-      members = no_member_differs classes marks rules set.taken set.closed mapping told names_told;
-      codes = no_code_differs classes marks rules set.taken set.closed mapping told names_told;
+      members = no_member_differs classes marks rules old set.taken set.closed mapping told names_told;
+      codes = no_code_differs classes marks rules old set.taken set.closed mapping told names_told;
+      ranges = no_range_left classes marks rules old set.taken set.closed told names_told;
     }

@@ -21,7 +21,7 @@ use Rattle.pair_laws.specs.OwnMapping.Laws.{OwnIsMapping, OwnMappingIsRead, OwnW
 use Rattle.pair_laws.proofs.OwnMapping.Mapped.{is_mapping}
 
 pub own_is_mapping : PassLaws → OwnIsMapping
-own_is_mapping laws files classes marks rules o set written h =
+own_is_mapping laws files classes marks rules old o set written h =
     let taken = are_taken files classes h.readable h.accepted in
     let new = with_codes o.codes classes in
     let swapped = swapped_if laws marks classes o taken h.accepted.typed rules.optimise h.optimised in
@@ -36,17 +36,17 @@ own_is_mapping laws files classes marks rules o set written h =
     let writable = all_writable marks classes o.codes o.witness.methods taken edited swapped
     (accepted_are_writable files classes h.accepted) in
     subst IsMapping (sym h.shrunk.mapping)
-    (is_mapping (new_names new marks rules) (filter_of rules).line_numbers (shrunk new marks)
+    (is_mapping (new_names new marks rules old) (filter_of rules).line_numbers (shrunk new marks)
     (shrunk_writable new marks writable)
-    (kept_writable new rules marks linked (closed_too classes new swapped rules marks h.closed) writable)
-    (kept_apart new marks (set_apart new linked)) (apart_by new rules marks linked rules.obfuscate))
+    (kept_writable new rules old marks h.earlier linked (closed_too classes new swapped rules marks h.closed) writable)
+    (kept_apart new marks (set_apart new linked)) (apart_by new rules old marks linked rules.obfuscate))
 
 pub own_mapping_is_read : PassLaws → OwnMappingIsRead
-own_mapping_is_read laws files classes marks rules o set written h =
-    written_back set.mapping (own_is_mapping laws files classes marks rules o set written h)
+own_mapping_is_read laws files classes marks rules old o set written h =
+    written_back set.mapping (own_is_mapping laws files classes marks rules old o set written h)
 
 pub own_witness_is_read : PassLaws → OwnWitnessIsRead
-own_witness_is_read laws files classes marks rules o set written h =
+own_witness_is_read laws files classes marks rules old o set written h =
     let taken = are_taken files classes h.readable h.accepted in
     let edited = edited_if laws marks classes o taken h.accepted.typed rules.optimise h.optimised in
     let is = is_witness laws.legal files marks classes o.codes o.witness.methods taken h.accepted edited in (

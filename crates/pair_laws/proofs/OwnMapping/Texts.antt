@@ -9,7 +9,7 @@ use Rattle.std.proofs.lemmas.Fmt.{IsAscii-decimal}
 use Rattle.std.proofs.lemmas.List.{map-append}
 use Rattle.std.proofs.lemmas.Str.{IsUtf8-append, IsUtf8-from_ascii, IsUtf8-nil}
 use lib.Utf8.{encode, encodes, scalar, scalars}
-use Rattle.jv_base.specs.External.{dotted, external_text, swapped, word_text}
+use Rattle.jv_base.specs.External.{slashed, dotted, external_text, swapped, word_text}
 use Rattle.jv_base.specs.declared.types.Base.{Base}
 use Rattle.jv_base.specs.declared.types.Base.TheVariants as base
 use Rattle.jv_base.specs.declared.types.FieldType.{FieldType}
@@ -25,30 +25,40 @@ use Rattle.mapping_file.specs.declared.mapping.Range.{Range}
 
 -- ---- names
 
-swapped_scalar : (c : ℕ) → scalar c ≡ true → scalar (swapped 47 46 c) ≡ true
-swapped_scalar c is = by (c == 47)
-  where
-    by : (t : Bool) → scalar (cond t 46 c) ≡ true
-    by true = refl
-    by false = is
+module _ (from to : ℕ) (low : from < 128) (small : to < 128) (is_scalar : scalar to ≡ true) where
+  swapped_scalar : (c : ℕ) → scalar c ≡ true → scalar (swapped from to c) ≡ true
+  swapped_scalar c is = by (c == from)
+    where
+      by : (t : Bool) → scalar (cond t to c) ≡ true
+      by true = is_scalar
+      by false = is
 
-swapped_scalars : (cs : List ℕ) → scalars cs ≡ true → scalars (map (swapped 47 46) cs) ≡ true
-swapped_scalars [] are = refl
-swapped_scalars (c ∷ cs) are =
-    let parts = and_parts (scalar c) (scalars cs) are in
-    and_from (scalar (swapped 47 46 c)) (scalars (map (swapped 47 46) cs)) (swapped_scalar c parts.0)
-    (swapped_scalars cs parts.1)
+  swapped_scalars : (cs : List ℕ) → scalars cs ≡ true → scalars (map (swapped from to) cs) ≡ true
+  swapped_scalars [] are = refl
+  swapped_scalars (c ∷ cs) are =
+      let parts = and_parts (scalar c) (scalars cs) are in
+      and_from (scalar (swapped from to c)) (scalars (map (swapped from to) cs)) (swapped_scalar c parts.0)
+      (swapped_scalars cs parts.1)
 
-swapped_all : (cs : List ℕ) → encodes (map (swapped 47 46) cs) ≡ map (swapped 47 46) (encodes cs)
-swapped_all [] = refl
-swapped_all (c ∷ cs) =
-    (λ i. swapped_char 47 46 c (lit< tt) (lit< tt) i ++ swapped_all cs i)
-    ∙ sym (map-append (swapped 47 46) (encode c) (encodes cs))
+  swapped_all : (cs : List ℕ) → encodes (map (swapped from to) cs) ≡ map (swapped from to) (encodes cs)
+  swapped_all [] = refl
+  swapped_all (c ∷ cs) =
+      (λ i. swapped_char from to c low small i ++ swapped_all cs i)
+      ∙ sym (map-append (swapped from to) (encode c) (encodes cs))
+
+  swapped_utf8 : (name : List ℕ) → IsUtf8 name → IsUtf8 (map (swapped from to) name)
+  swapped_utf8 name h = (
+    map (swapped from to) h.0,
+    (swapped_scalars h.0 h.1.0, swapped_all h.0 ∙ ap (map (swapped from to)) h.1.1),
+  )
 
 -- a name with dots in place of slashes is a text
 pub dotted_utf8 : (name : List ℕ) → IsUtf8 name → IsUtf8 (dotted name)
-dotted_utf8 name h =
-    (map (swapped 47 46) h.0, (swapped_scalars h.0 h.1.0, swapped_all h.0 ∙ ap (map (swapped 47 46)) h.1.1))
+dotted_utf8 = swapped_utf8 47 46 (lit< tt) (lit< tt) refl
+
+-- and one with slashes in place of dots
+pub slashed_utf8 : (name : List ℕ) → IsUtf8 name → IsUtf8 (slashed name)
+slashed_utf8 = swapped_utf8 46 47 (lit< tt) (lit< tt) refl
 
 -- ---- types
 

@@ -9,6 +9,7 @@ use Rattle.std.proofs.lemmas.List.Quantifiers.{position-Some}
 use Rattle.std.proofs.lemmas.Option.{slice_get-map}
 use Rattle.std.proofs.lemmas.Bool.{or_right}
 use Rattle.jv_base.specs.Names.{is_member_name, is_text}
+use Rattle.jv_base.specs.Types.{method_text}
 use Rattle.jv_base.proofs.Equality.{text_itself, same_text}
 use Rattle.jv_base.proofs.Lists.{any_at, placed}
 use Rattle.lib_table.specs.Library.{LibraryClass, class, library}
@@ -19,21 +20,23 @@ use Rattle.class_model.specs.WellFormed.{IsName}
 use Rattle.class_model.specs.declared.class.Class.{Class}
 use Rattle.class_model.specs.declared.class.Field.{Field}
 use Rattle.class_model.specs.declared.class.Method.{Method}
-use Rattle.class_pool.specs.Found.{MemberRow, package_of, rows_in}
+use Rattle.class_pool.specs.Found.{MemberRow, NameAndType, package_of, rows_in}
 use Rattle.class_pool.specs.Hierarchy.{or_found}
 use Rattle.class_pool.specs.declared.id.ClassId.{ClassId}
 use Rattle.class_pool.specs.declared.id.ClassId.TheVariants.{Prog, Lib}
 use Rattle.image_laws.proofs.TakenSet.LibraryRows.{library_name}
 use Rattle.image_laws.proofs.TakenSet.Members.{row_parts}
 use Rattle.image_laws.proofs.ViewImage.Naming.{found_library}
-use Rattle.class_rename.specs.Names.{Names, same_names}
+use Rattle.class_rename.specs.Names.{Names, Tables, same_names}
 use Rattle.fresh_names.specs.Fresh.{is_taken}
-use Rattle.fresh_names.specs.Given.{class_names, field_names, front_of, given_name, method_names, no_front}
+use Rattle.fresh_names.specs.Given.{NameTable, class_given, class_names, field_names, front_of, method_names, of_type}
+use Rattle.fresh_names.specs.Given.{stays_for}
 use Rattle.fresh_names.specs.Laws.{IsNamed}
 use Rattle.fresh_names.specs.Reserved.{library_names, reserved}
 use Rattle.fresh_names.specs.declared.taken.Named.TheVariants as named
 use Rattle.fresh_names.proofs.Reserved.{taken_parts}
-use Rattle.fresh_names.proofs.Tables.{classes_differ, fronts_stay, members_differ, taken_stay}
+use Rattle.fresh_names.proofs.Tables.{classes_differ, fields_differ, fields_stay, methods_differ, methods_stay}
+use Rattle.fresh_names.proofs.Tables.{packages_stay}
 use Rattle.rename_map.specs.Fixed.{Stay}
 use Rattle.rename_map.specs.Names.{given_beside}
 use Rattle.pair_laws.specs.RenamedForm.Form.{KeepsForm}
@@ -42,9 +45,9 @@ use Rattle.pair_laws.proofs.RenamedImage.MemberNames.{library_name_taken, no_ini
 use Rattle.pair_laws.proofs.RenamedImage.MemberNames.{program_row}
 use Rattle.pair_laws.proofs.NamedForm.Fronts.{front_java, is_java}
 use Rattle.pair_laws.proofs.NamedForm.Kept.{NoneJava, no_name}
-use Rattle.pair_laws.proofs.RenamedForm.Given.{other_stays}
+use Rattle.pair_laws.proofs.RenamedForm.Given.{other_class_stays}
 use Rattle.pair_laws.proofs.OwnLines.Fixed.{package_is}
-use Rattle.pair_laws.proofs.RenamedForm.GivenWritable.{in_kept}
+use Rattle.pair_laws.proofs.RenamedForm.GivenWritable.{in_kept, method_among}
 
 -- ---- lists
 
@@ -58,14 +61,12 @@ name_among name xs k x at =
 -- ---- packages
 
 -- it stays
-pub package_stays : (taken names : List (List ℕ)) (a : List ℕ)
-    → package_of (given_name front_of taken names a) ≡ package_of a
-package_stays taken names a =
-    package_is (given_name front_of taken names a)
-    ∙ ap (λ (front : List ℕ). take (length front - 1) front) (fronts_stay taken names a)
+pub package_stays : (old : NameTable) (stays names : List (List ℕ)) (a : List ℕ)
+    → package_of (class_given old stays names a) ≡ package_of a
+package_stays old stays names a =
+    package_is (class_given old stays names a)
+    ∙ ap (λ (front : List ℕ). take (length front - 1) front) (packages_stay old stays names a)
     ∙ sym (package_is a)
-
--- ---- names of members
 
 -- ---- names of classes
 
@@ -105,23 +106,22 @@ abbrev pub AreFieldNames : List Class → Type 0
 AreFieldNames classes = (j : ℕ) (d : Class) → slice_get classes j ≡ Some d → (k : ℕ) (x : Field)
     → slice_get d.fields k ≡ Some x → IsName is_member_name x.name
 
-module _ (stay : Stay) (classes : List Class) (form : KeepsForm (given_beside stay classes))
+module _ (stay : Stay) (old : Tables) (classes : List Class) (form : KeepsForm (given_beside stay old classes))
     (fields_reserved : (a : List ℕ) → is_taken (reserved named.Field) a ≡ true → is_taken stay.fields a ≡ true)
-    (methods_reserved : (a : List ℕ) → is_taken (reserved named.Method) a ≡ true → is_taken stay.methods a ≡ true)
     (none : NoneJava classes) (good : AreFieldNames classes) where
   abbrev names : Names
-  names = given_beside stay classes
+  names = given_beside stay old classes
 
   library_class : (name : List ℕ) → is_java name ≡ true → names.class name ≡ name
   library_class name java =
-      other_stays front_of stay.classes (class_names classes) name (no_name classes name none java)
+      other_class_stays old.classes stay.classes (class_names classes) name (no_name classes name none java)
 
   -- no class is renamed to a name of the library
   not_java : (a b : List ℕ) → is_java a ≡ true → is_taken (class_names classes) b ≡ true
       → names.class a ≡ names.class b → ⊥
   not_java a b java there same =
       let front : front_of b ≡ front_of a =
-      sym (fronts_stay stay.classes (class_names classes) b)
+      sym (packages_stay old.classes stay.classes (class_names classes) b)
       ∙ ap front_of (sym same ∙ library_class a java) in
       let w : true ≡ false = sym there ∙ no_name classes b none (front_java a b java front) in
       cc
@@ -135,7 +135,8 @@ module _ (stay : Stay) (classes : List Class) (form : KeepsForm (given_beside st
       by (inl x) (inl y) = sym (library_class a x) ∙ same ∙ library_class b y
       by (inl x) (inr y) = absurd (not_java a b x y same)
       by (inr x) (inl y) = absurd (not_java b a y x (sym same))
-      by (inr x) (inr y) = classes_differ stay.classes (class_names classes) a b (inr x) (inr y) same
+      by (inr x) (inr y) =
+          classes_differ old.classes stay.classes (class_names classes) a b (inr x) (inr y) same
 
   library_field_stays : (id k : ℕ) (row : MemberRow) → slice_get (rows_in classes (Lib id)) k ≡ Some row
       → row.is_method ≡ false → is_taken stay.fields row.named.0 ≡ true
@@ -143,10 +144,17 @@ module _ (stay : Stay) (classes : List Class) (form : KeepsForm (given_beside st
       fields_reserved row.named.0
       (ap (λ (b : Bool). is_taken (library_names b) row.named.0) (sym kind) ∙ library_name_taken classes id k row at)
 
+  -- reserved names of methods stay for each descriptor
+  reserved_stays : (a d : List ℕ) → is_taken (reserved named.Method) a ≡ true
+      → is_taken (stays_for stay.methods d) a ≡ true
+  reserved_stays a d h =
+      taken_parts (of_type d stay.methods) (reserved named.Method) a
+      ∙ or_right (is_taken (of_type d stay.methods) a) (is_taken (reserved named.Method) a) h
+
   library_method_stays : (id k : ℕ) (row : MemberRow) → slice_get (rows_in classes (Lib id)) k ≡ Some row
-      → row.is_method ≡ true → is_taken stay.methods row.named.0 ≡ true
-  library_method_stays id k row at kind =
-      methods_reserved row.named.0
+      → row.is_method ≡ true → (d : List ℕ) → is_taken (stays_for stay.methods d) row.named.0 ≡ true
+  library_method_stays id k row at kind d =
+      reserved_stays row.named.0 d
       (taken_parts (codes "<init>" ∷ (codes "<clinit>" ∷ [])) (library_names true) row.named.0
       ∙ or_right (is_taken (codes "<init>" ∷ (codes "<clinit>" ∷ [])) row.named.0)
       (is_taken (library_names true) row.named.0)
@@ -156,12 +164,13 @@ module _ (stay : Stay) (classes : List Class) (form : KeepsForm (given_beside st
   by_field : (P : List ℕ → Type 0) → ((a : List ℕ) → is_taken stay.fields a ≡ true → P a)
       → ((j : ℕ) (d : Class) → slice_get classes j ≡ Some d → (k : ℕ) (x : Field) → slice_get d.fields k ≡ Some x
       → P x.name)
-      → (a : List ℕ) → IsMemberName classes false a → P a
+      → (a : NameAndType) → IsMemberName classes false a → P a.0
   by_field P fixed own a (inr h) = absurd (let w = h.0 in cc)
-  by_field P fixed own a (inl h) = by h.class h.index h.row h.at h.kind h.name_is
+  by_field P fixed own a (inl h) =
+      by h.class h.index h.row h.at h.kind (ap (λ (n : NameAndType). n.0) h.named_is)
     where
       by : (x : ClassId) (k : ℕ) (row : MemberRow) → slice_get (rows_in classes x) k ≡ Some row
-          → row.is_method ≡ false → row.named.0 ≡ a → P a
+          → row.is_method ≡ false → row.named.0 ≡ a.0 → P a.0
       by (Lib id) k row at kind name =
           subst P name (fixed row.named.0 (library_field_stays id k row at kind))
       by (Prog j) k row at kind name =
@@ -171,62 +180,67 @@ module _ (stay : Stay) (classes : List Class) (form : KeepsForm (given_beside st
           (λ p. absurd (let w : true ≡ false = sym (ap (λ (r : MemberRow). r.is_method) p.4) ∙ kind in cc))
           (row_parts d.0.fields d.0.methods k row d.2)
 
-  -- the same of methods
-  by_method : (P : List ℕ → Type 0) → ((a : List ℕ) → is_taken stay.methods a ≡ true → P a)
+  -- the same of methods with their descriptors
+  by_method : (P : NameAndType → Type 0)
+      → ((a d : List ℕ) → is_taken (stays_for stay.methods d) a ≡ true → P (a, d))
       → ((j : ℕ) (d : Class) → slice_get classes j ≡ Some d → (k : ℕ) (x : Method) → slice_get d.methods k ≡ Some x
-      → P x.name)
-      → (a : List ℕ) → IsMemberName classes true a → P a
+      → P (x.name, method_text x.ty))
+      → (a : NameAndType) → IsMemberName classes true a → P a
   by_method P fixed own a (inr h) =
-      subst P (sym h.1) (fixed (codes "<clinit>") (methods_reserved (codes "<clinit>") refl))
-  by_method P fixed own a (inl h) = by h.class h.index h.row h.at h.kind h.name_is
+      fixed a.0 a.1 (ap (is_taken (stays_for stay.methods a.1)) h.1 ∙ reserved_stays (codes "<clinit>") a.1 refl)
+  by_method P fixed own a (inl h) = by h.class h.index h.row h.at h.kind h.named_is
     where
       by : (x : ClassId) (k : ℕ) (row : MemberRow) → slice_get (rows_in classes x) k ≡ Some row
-          → row.is_method ≡ true → row.named.0 ≡ a → P a
-      by (Lib id) k row at kind name =
-          subst P name (fixed row.named.0 (library_method_stays id k row at kind))
-      by (Prog j) k row at kind name =
+          → row.is_method ≡ true → row.named ≡ a → P a
+      by (Lib id) k row at kind named =
+          subst P named (fixed row.named.0 row.named.1 (library_method_stays id k row at kind row.named.1))
+      by (Prog j) k row at kind named =
           let d = program_row classes k row j at in
           ⊎_elim
           (λ p. absurd (let w : false ≡ true = sym (ap (λ (r : MemberRow). r.is_method) p.2) ∙ kind in cc))
-          (λ p. subst P (sym (ap (λ (r : MemberRow). r.named.0) p.4) ∙ name) (own j d.0 d.1 p.0 p.1 p.3))
+          (λ p. subst P (sym (ap (λ (r : MemberRow). r.named) p.4) ∙ named) (own j d.0 d.1 p.0 p.1 p.3))
           (row_parts d.0.fields d.0.methods k row d.2)
 
   -- names of members stay, or get new names
-  field_named : (a : List ℕ) → IsMemberName classes false a → IsNamed stay.fields (field_names classes) a
+  field_named : (a : NameAndType) → IsMemberName classes false a → IsNamed stay.fields (field_names classes) a.0
   field_named = by_field (IsNamed stay.fields (field_names classes)) (λ a h. inl h)
       (λ j d at k x there. inr (in_kept (λ (c : Class). map (λ (f : Field). f.name) c.fields) classes j d at x.name
       (name_among (λ (f : Field). f.name) d.fields k x there)))
 
-  method_named : (a : List ℕ) → IsMemberName classes true a → IsNamed stay.methods (method_names classes) a
-  method_named = by_method (IsNamed stay.methods (method_names classes)) (λ a h. inl h)
-      (λ j d at k x there. inr (in_kept (λ (c : Class). map (λ (m : Method). m.name) c.methods) classes j d at x.name
-      (name_among (λ (m : Method). m.name) d.methods k x there)))
+  method_named : (a : NameAndType) → IsMemberName classes true a
+      → IsNamed (stays_for stay.methods a.1) (of_type a.1 (method_names classes)) a.0
+  method_named =
+      by_method (λ (n : NameAndType). IsNamed (stays_for stay.methods n.1) (of_type n.1 (method_names classes)) n.0)
+      (λ a d h. inl h)
+      (λ j d at k x there. inr (method_among classes j d at k x there))
 
-  init_of_fields : (a : List ℕ) → IsMemberName classes false a → is_init (names.field a) ≡ is_init a
+  init_of_fields : (a : NameAndType) → IsMemberName classes false a → is_init (names.field a.0) ≡ is_init a.0
   init_of_fields = by_field (λ a. is_init (names.field a) ≡ is_init a)
-      (λ a h. ap is_init (taken_stay no_front stay.fields (field_names classes) a h))
+      (λ a h. ap is_init (fields_stay old.fields stay.fields (field_names classes) a h))
       (λ j d at k x there.
       let own = good j d at k x there in
       no_init (names.field x.name) (form.field_name x.name own).1 ∙ sym (no_init x.name own.1))
 
-  pub given_apart : KeepsNamesApart (given_beside stay classes) classes
+  pub given_apart : KeepsNamesApart (given_beside stay old classes) classes
   given_apart = record {
     library_class = library_class;
     class_name = form.class_name;
     one_class = one_class;
-    packages = λ n c at. package_stays stay.classes (class_names classes) c.name;
+    packages = λ n c at. package_stays old.classes stay.classes (class_names classes) c.name;
     library_field = λ id k row at kind.
-        taken_stay no_front stay.fields (field_names classes) row.named.0 (library_field_stays id k row at kind);
+        fields_stay old.fields stay.fields (field_names classes) row.named.0 (library_field_stays id k row at kind);
     library_method = λ id k row at kind.
-        taken_stay no_front stay.methods (method_names classes) row.named.0 (library_method_stays id k row at kind);
+        methods_stay old.methods stay.methods (method_names classes) row.named.0 row.named.1
+        (library_method_stays id k row at kind row.named.1);
     one_field = λ a b h k same.
-        members_differ stay.fields (field_names classes) a b (field_named a h) (field_named b k) same;
-    one_method = λ a b descriptor h k same.
-        members_differ stay.methods (method_names classes) a b (method_named a h) (method_named b k) same;
+        fields_differ old.fields stay.fields (field_names classes) a.0 b.0 (field_named a h) (field_named b k) same;
+    one_method = λ a b d h k same.
+        methods_differ old.methods stay.methods (method_names classes) d a b (method_named (a, d) h)
+        (method_named (b, d) k) same;
     init_field = init_of_fields;
     init_method = λ a descriptor h. form.init a descriptor;
-    clinit = taken_stay no_front stay.methods (method_names classes) (codes "<clinit>")
-        (methods_reserved (codes "<clinit>") refl);
+    clinit = λ d. methods_stay old.methods stay.methods (method_names classes) (codes "<clinit>") d
+        (reserved_stays (codes "<clinit>") d refl);
   }
 
 -- without obfuscation all names stay
@@ -242,5 +256,5 @@ same_apart classes = record {
   one_method = λ a b descriptor h k same. same;
   init_field = λ a h. refl;
   init_method = λ a descriptor h. refl;
-  clinit = refl;
+  clinit = λ d. refl;
 }

@@ -1,9 +1,11 @@
 -- The new names of a set that is taken are names of their kind, and keep apart what is kept.
-use Rattle.std.proofs.Common.{◌≡◌, ℕ, ◌+◌, Bool, true, false, cond, List, [], ◌∷◌, ◌++◌, map}
+use Rattle.std.proofs.Common.{◌≡◌, ℕ, ◌+◌, Bool, true, false, cond, List, [], ◌∷◌, ◌++◌, map, Option}
+use Rattle.std.specs.Prelude.{IfSome}
 use Rattle.std.proofs.Common.{codes, refl, ap, subst, ◌∙◌}
 use Rattle.std.specs.List.{AllByRecursion}
 use Rattle.std.proofs.lemmas.Bool.{or_right}
 use Rattle.jv_base.specs.Names.{is_member_name}
+use Rattle.jv_base.specs.Types.{method_text}
 use Rattle.jv_base.proofs.Lists.{all_at}
 use Rattle.mark_core.specs.Marks.{Closed}
 use Rattle.class_model.specs.WellFormed.{IsGoodField, IsName}
@@ -12,25 +14,28 @@ use Rattle.class_model.specs.declared.class.Class.{Class}
 use Rattle.class_model.specs.declared.class.Field.{Field}
 use Rattle.class_model.specs.declared.class.Method.{Method}
 use Rattle.class_pool.specs.Items.{class_item}
-use Rattle.class_rename.specs.Names.{same_names}
+use Rattle.class_rename.specs.Names.{MethodName, Tables, same_names}
 use Rattle.attribute_filter.specs.Filtered.{field_filtered, filtered, method_filtered}
 use Rattle.attribute_filter.specs.KeptAttributes.{filter_of}
 use Rattle.attribute_filter.specs.declared.filter.AttributeFilter.{AttributeFilter}
 use Rattle.fresh_names.specs.Fresh.{is_taken}
-use Rattle.fresh_names.specs.Given.{class_names, field_names, front_of, given_name, method_names, no_front}
+use Rattle.fresh_names.specs.Given.{class_given, class_names, field_given, field_names, method_given, method_names}
 use Rattle.fresh_names.specs.Reserved.{reserved}
 use Rattle.fresh_names.specs.declared.taken.Named.TheVariants as named
 use Rattle.fresh_names.proofs.Reserved.{taken_parts}
 use Rattle.keep_rules.specs.declared.rules.Rules.{Rules}
 use Rattle.member_shrink.specs.Shrunk.{is_marked, shrunk}
 use Rattle.class_laws.proofs.Mapped.{all_mapped}
+use Rattle.mapping_file.specs.Mappings.{IsMapping}
+use Rattle.mapping_file.specs.declared.mapping.Mapping.{Mapping}
+use Rattle.new_names.specs.NewNames.{tables_of}
+use Rattle.pair_laws.proofs.NamedForm.Earlier.{tables_tell}
 use Rattle.pair_laws.proofs.NamedForm.Kept.{NoneJava, no_name, none_java}
 use Rattle.pair_laws.proofs.NamedForm.Picked.{all_picked_at}
 use Rattle.pair_laws.proofs.NamedForm.Same.{same_form}
 use Rattle.pair_laws.proofs.NamedForm.Written.{has_reserved, taken_of}
 use Rattle.rename_map.specs.Fixed.{Stay, names_that_stay}
 use Rattle.rename_map.specs.Names.{given_beside}
-use Rattle.rename_map.proofs.Stays.{reserved_method_stays}
 use Rattle.pair_laws.specs.RenamedForm.Form.{KeepsForm}
 use Rattle.pair_laws.proofs.RenamedForm.Given.{given_form}
 use Rattle.pair_laws.specs.RenamedImage.Renaming.{KeepsNamesApart}
@@ -48,10 +53,11 @@ module _ (filter : AttributeFilter) where
   field_names_stay [] = refl
   field_names_stay (f ∷ fs) = ap (λ (t : List (List ℕ)). f.name ∷ t) (field_names_stay fs)
 
-  method_names_stay : (ms : List Method) → map (λ (m : Method). m.name) (map (method_filtered filter) ms)
-      ≡ map (λ (m : Method). m.name) ms
+  method_names_stay : (ms : List Method)
+      → map {B = MethodName} (λ (m : Method). (m.name, method_text m.ty)) (map (method_filtered filter) ms)
+      ≡ map {B = MethodName} (λ (m : Method). (m.name, method_text m.ty)) ms
   method_names_stay [] = refl
-  method_names_stay (m ∷ ms) = ap (λ (t : List (List ℕ)). m.name ∷ t) (method_names_stay ms)
+  method_names_stay (m ∷ ms) = ap (λ (t : List MethodName). (m.name, method_text m.ty) ∷ t) (method_names_stay ms)
 
   classes_stay : (kept : List Class) → class_names (map (filtered filter) kept) ≡ class_names kept
   classes_stay [] = refl
@@ -66,12 +72,12 @@ module _ (filter : AttributeFilter) where
   methods_stay (c ∷ cs) = λ i. method_names_stay c.methods i ++ methods_stay cs i
 
   -- nor what is given
-  given_stay : (stay : Stay) (kept : List Class)
-      → given_beside stay (map (filtered filter) kept) ≡ given_beside stay kept
-  given_stay stay kept = λ i. record {
-    class = given_name front_of stay.classes (classes_stay kept i);
-    field = given_name no_front stay.fields (fields_stay kept i);
-    method = λ name descriptor. given_name no_front stay.methods (methods_stay kept i) name;
+  given_stay : (stay : Stay) (old : Tables) (kept : List Class)
+      → given_beside stay old (map (filtered filter) kept) ≡ given_beside stay old kept
+  given_stay stay old kept = λ i. record {
+    class = class_given old.classes stay.classes (classes_stay kept i);
+    field = field_given old.fields stay.fields (fields_stay kept i);
+    method = method_given old.methods stay.methods (methods_stay kept i);
   }
 
   java_stays : (kept : List Class) → NoneJava kept → NoneJava (map (filtered filter) kept)
@@ -84,7 +90,8 @@ module _ (filter : AttributeFilter) where
 abbrev HasFieldNames : Class → Type 0
 HasFieldNames c = AllByRecursion (λ (f : Field). IsName is_member_name f.name) c.fields
 
-module _ (classes : List Class) (marks : List Bool) (rules : Rules) (taken : IsTaken classes)
+module _ (classes : List Class) (marks : List Bool) (rules : Rules) (old : Option Mapping) (has : IfSome old IsMapping)
+    (taken : IsTaken classes)
     (closed : Closed (required classes rules) (is_marked marks)) where
   abbrev kept : List Class
   kept = shrunk classes marks
@@ -120,25 +127,27 @@ module _ (classes : List Class) (marks : List Bool) (rules : Rules) (taken : IsT
   fields_reserved : (a : List ℕ) → is_taken (reserved named.Field) a ≡ true → is_taken stay.fields a ≡ true
   fields_reserved a h = taken_parts _ (reserved named.Field) a ∙ or_right _ (is_taken (reserved named.Field) a) h
 
-  form_of : (cs : List Class) → NoneJava cs → KeepsForm (given_beside stay cs)
+  form_of : (cs : List Class) → NoneJava cs → KeepsForm (given_beside stay (tables_of old) cs)
   form_of cs none =
-      given_form (taken_of stay) cs (has_reserved rules classes) (no_name cs (codes "java/lang/String") none refl)
+      given_form (taken_of stay) (tables_of old) cs (has_reserved rules classes) (tables_tell old has)
+      (no_name cs (codes "java/lang/String") none refl)
 
-  form_by : (obfuscate : Bool) → KeepsForm (cond obfuscate (given_beside stay kept) same_names)
+  form_by : (obfuscate : Bool) → KeepsForm (cond obfuscate (given_beside stay (tables_of old) kept) same_names)
   form_by true = form_of kept none
   form_by false = same_form
 
   apart_by : (obfuscate : Bool)
-      → KeepsNamesApart (cond obfuscate (given_beside stay kept) same_names) (kept_of classes marks rules)
+      → KeepsNamesApart (cond obfuscate (given_beside stay (tables_of old) kept) same_names) (kept_of classes marks rules)
   apart_by true =
-      subst (λ names. KeepsNamesApart names (kept_of classes marks rules)) (given_stay filter stay kept)
-      (given_apart stay (kept_of classes marks rules)
+      subst (λ names. KeepsNamesApart names (kept_of classes marks rules)) (given_stay filter stay (tables_of old) kept)
+      (given_apart stay (tables_of old) (kept_of classes marks rules)
       (form_of (kept_of classes marks rules) (java_stays filter kept none)) fields_reserved
-      (reserved_method_stays rules classes) (java_stays filter kept none) good)
+      (java_stays filter kept none) good)
   apart_by false = same_apart (kept_of classes marks rules)
 
 pub keep_form : NewNamesKeepForm
-keep_form classes marks rules taken closed = form_by classes marks rules taken closed rules.obfuscate
+keep_form classes marks rules old has taken closed = form_by classes marks rules old has taken closed rules.obfuscate
 
 pub stay_apart : NewNamesStayApart
-stay_apart classes marks rules taken closed = apart_by classes marks rules taken closed rules.obfuscate
+stay_apart classes marks rules old has taken closed =
+    apart_by classes marks rules old has taken closed rules.obfuscate

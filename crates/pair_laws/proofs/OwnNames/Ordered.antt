@@ -38,13 +38,13 @@ linked_of classes taken =
     record { files = taken.files; ascend = taken.ascend; built = taken.built; linked = taken.linked }
 
 pub left_renamed : LeftIsRenamed
-left_renamed classes marks rules taken =
-    let names = new_names classes marks rules in
+left_renamed classes marks rules old taken =
+    let names = new_names classes marks rules old in
     let filter = filter_of rules in
-    subst (λ (cs : List Class). IsPermutation cs (left_of classes marks rules))
+    subst (λ (cs : List Class). IsPermutation cs (left_of classes marks rules old))
     (classes_commute names filter (shrunk classes marks))
-    (IsPermutation-map (filtered filter) (renamed_of classes marks rules) (in_order (renamed_of classes marks rules))
-    (all_written classes rules marks (linked_of classes taken)))
+    (IsPermutation-map (filtered filter) (renamed_of classes marks rules old) (in_order (renamed_of classes marks rules old))
+    (all_written classes rules old marks (linked_of classes taken)))
 
 -- ---- in the order of the paths
 
@@ -138,20 +138,20 @@ file_paths [] all = refl
 file_paths (f ∷ files) all = λ i. all.0 i ∷ file_paths files all.1 i
 
 pub left_ascends : LeftAscends
-left_ascends classes marks rules files at left = λ i j d before within. apart i j d before within
+left_ascends classes marks rules old files at left = λ i j d before within. apart i j d before within
   where
     entries : Entries
-    entries = put_at_paths [] (renamed_of classes marks rules)
+    entries = put_at_paths [] (renamed_of classes marks rules old)
 
     paths : List (List ℕ)
     paths = map (λ (f : NamedClass). f.path) files
 
     are : paths ≡ keys_of entries
     are = file_paths files at ∙ ap (map class_path) left
-        ∙ paths_are (filter_of rules) entries (placed_at [] (renamed_of classes marks rules) tt)
+        ∙ paths_are (filter_of rules) entries (placed_at [] (renamed_of classes marks rules old) tt)
 
     sorted : IsStrictlySortedBy compare paths
-    sorted = subst (IsStrictlySortedBy compare) (sym are) (placed_sorted [] (renamed_of classes marks rules) no_entry)
+    sorted = subst (IsStrictlySortedBy compare) (sym are) (placed_sorted [] (renamed_of classes marks rules old) no_entry)
 
     apart : (i j : ℕ) (d : NamedClass) → i < j → j < length files
         → is_lt (compare (get_or files i d).path (get_or files j d).path) ≡ true

@@ -98,16 +98,16 @@ ascending (f ∷ files) h = (
 -- ---- the whole
 
 pub files_below : OwnFilesAreBelow
-files_below classes marks rules set shrunk =
-    below_all rules.out_dir (left_of classes marks rules) set.files shrunk.files
+files_below classes marks rules old set shrunk =
+    below_all rules.out_dir (left_of classes marks rules old) set.files shrunk.files
 
 pub files_found : OwnFilesAreFound
-files_found files classes marks rules o set written h old others empty elsewhere found due =
+files_found files classes marks rules old o set written h there others empty elsewhere found due =
     let new = with_codes o.codes classes in
-    let left = left_of new marks rules in
+    let left = left_of new marks rules old in
     let paths = class_paths_of rules.out_dir left set.files written h.shrunk.files h.below in
     let ascend : IsAscending (map (λ (f : FileAt). f.path) written) =
     subst IsAscending (sym paths) (ascending (map at_its_path left)
-    (left_ascends new marks rules (map at_its_path left) (at_paths left) (classes_back left))) in
-    are_found old rules.out_dir set.files others written found empty h.below ascend
+    (left_ascends new marks rules old (map at_its_path left) (at_paths left) (classes_back left))) in
+    are_found there rules.out_dir set.files others written found empty h.below ascend
     (all_class_paths left written paths) elsewhere due

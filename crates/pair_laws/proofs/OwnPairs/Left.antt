@@ -1,8 +1,10 @@
 -- What is left of a set under its new names is a set that is taken and typed, in the files of its classes.
-use Rattle.std.proofs.Common.{◌≡◌, ◌++◌, Bool, List, [], ◌∷◌, map, refl, ap, codes}
+use Rattle.std.proofs.Common.{◌≡◌, ◌++◌, Bool, List, [], ◌∷◌, map, refl, ap, codes, Option}
 use Rattle.std.specs.Prelude.{IfSome}
 use Rattle.std.specs.List.{AllByRecursion}
 use Rattle.std.specs.Str.{IsUtf8}
+use Rattle.mapping_file.specs.Mappings.{IsMapping}
+use Rattle.mapping_file.specs.declared.mapping.Mapping.{Mapping}
 use Rattle.mark_core.specs.Marks.{Closed, set_of}
 use Rattle.class_model.specs.declared.class.Class.{Class}
 use Rattle.class_pool.specs.Faults.{classes_of}
@@ -38,25 +40,26 @@ pub at_paths : (cs : List Class)
 at_paths [] = tt
 at_paths (c ∷ cs) = (refl, at_paths cs)
 
-module _ (classes : List Class) (marks : List Bool) (rules : Rules) (taken : IsTaken classes)
+module _ (classes : List Class) (marks : List Bool) (rules : Rules) (old : Option Mapping) (has : IfSome old IsMapping)
+    (taken : IsTaken classes)
     (closed : Closed (required classes rules) (set_of marks)) (utf8 : IfSome rules.source_name IsUtf8) where
   abbrev names : Names
-  names = new_names classes marks rules
+  names = new_names classes marks rules old
 
   abbrev kept : List Class
   kept = left_and_filtered (filter_of rules) classes marks
 
   abbrev left : List Class
-  left = left_of classes marks rules
+  left = left_of classes marks rules old
 
   kept_taken : IsTaken kept
   kept_taken = taken_left classes (kept_by_rules classes rules) marks (filter_of rules) taken closed refl utf8
 
   new_set : IsNewSet names kept left
   new_set = record {
-    form = keep_form classes marks rules taken closed;
-    apart = stay_apart classes marks rules taken closed;
-    order = left_renamed classes marks rules taken;
+    form = keep_form classes marks rules old has taken closed;
+    apart = stay_apart classes marks rules old has taken closed;
+    order = left_renamed classes marks rules old taken;
   }
 
   -- ---- its files
@@ -71,7 +74,7 @@ module _ (classes : List Class) (marks : List Bool) (rules : Rules) (taken : IsT
   its_files = record {
     classes_are = are_back;
     paths = at_paths left;
-    ascend = left_ascends classes marks rules named (at_paths left) are_back;
+    ascend = left_ascends classes marks rules old named (at_paths left) are_back;
   }
 
   pub are_built : AreBuilt named left

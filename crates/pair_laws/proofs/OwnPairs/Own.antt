@@ -1,5 +1,5 @@
 -- What is written is a pair with the set, so it does what the set does.
-use Rattle.std.proofs.Common.{◌≡◌, Bool, List, None, refl, sym, subst}
+use Rattle.std.proofs.Common.{◌≡◌, Bool, List, None, refl, sym, subst, Option}
 use Rattle.std.specs.List.{AllByRecursion}
 use Rattle.tree_io.specs.declared.file_at.FileAt.{FileAt}
 use Rattle.mark_core.specs.Marks.{Closed, set_of}
@@ -41,13 +41,14 @@ use Rattle.pair_laws.proofs.OwnPairs.Left.{are_back, are_built, is_taken, is_typ
 use Rattle.pair_laws.proofs.OwnPairs.Written.{are_read, left_writable}
 
 module _ (laws : PassLaws) (files : List FileAt) (classes : List Class) (marks : List Bool) (rules : Rules)
-    (o : Optimised) (set : ShrunkSet) (written : List FileAt) (h : AreWritten files classes marks rules o set written)
+    (old : Option Mapping) (o : Optimised) (set : ShrunkSet) (written : List FileAt)
+    (h : AreWritten files classes marks rules old o set written)
   where
     abbrev new : List Class
     new = with_codes o.codes classes
 
     abbrev left : List Class
-    left = left_of new marks rules
+    left = left_of new marks rules old
 
     taken : IsTaken classes
     taken = are_taken files classes h.readable h.accepted
@@ -71,21 +72,21 @@ module _ (laws : PassLaws) (files : List FileAt) (classes : List Class) (marks :
         (accepted_are_writable files classes h.accepted)
 
     then_taken : IsTaken left
-    then_taken = is_taken new marks rules new_taken new_closed h.source_name
+    then_taken = is_taken new marks rules old h.earlier new_taken new_closed h.source_name
 
     accepted : IsAccepted written left
     accepted =
-        let built = are_built new marks rules new_taken new_closed h.source_name in
-        let back = are_back new marks rules new_taken new_closed h.source_name in
+        let built = are_built new marks rules old h.earlier new_taken new_closed h.source_name in
+        let back = are_back new marks rules old h.earlier new_taken new_closed h.source_name in
         record {
-          named = named new marks rules new_taken new_closed h.source_name;
+          named = named new marks rules old h.earlier new_taken new_closed h.source_name;
           read = are_read rules.out_dir left set.files written
-              (left_writable new marks rules new_taken new_closed h.source_name new_writable) h.shrunk.files h.below;
+              (left_writable new marks rules old h.earlier new_taken new_closed h.source_name new_writable) h.shrunk.files h.below;
           are = sym back;
           first = built.built.0;
           acyclic = subst NoCycle back built.built.1;
           linked = then_taken.linked;
-          typed = is_typed new marks rules new_taken new_closed h.source_name
+          typed = is_typed new marks rules old h.earlier new_taken new_closed h.source_name
               (typed_if laws marks classes o taken h.accepted.typed rules.optimise h.optimised);
         }
 
@@ -94,7 +95,7 @@ module _ (laws : PassLaws) (files : List FileAt) (classes : List Class) (marks :
     finds_none : (c : Clause) → Finds classes left set.mapping rules o.witness c None
     finds_none c = subst (λ (mapping : Mapping). Finds classes left mapping rules o.witness c None)
         (sym h.shrunk.mapping)
-        (none laws.legal classes marks rules o taken h.accepted.typed swapped edited h.closed h.count c)
+        (none laws.legal classes marks rules old o taken h.accepted.typed swapped edited h.closed h.count c)
 
     checked : PairOk classes written set.mapping rules o.witness
     checked = record { output = left; accepted = accepted; none = finds_none }
@@ -113,6 +114,7 @@ module _ (laws : PassLaws) (files : List FileAt) (classes : List Class) (marks :
             seeds = finds_none clause.SeedLost;
             closed = finds_none clause.NotClosed;
             members = finds_none clause.MemberDiffers;
+            ranges = finds_none clause.LineRange;
           };
           codes = finds_none clause.CodeDiffers;
         })
@@ -122,21 +124,21 @@ own_accepted laws = accepted laws
 
 pub own_pairs : PassLaws → OwnPairs
 unfolding checked
-own_pairs laws files classes marks rules o set written h =
-    (checked laws files classes marks rules o set written h, refl)
+own_pairs laws files classes marks rules old o set written h =
+    (checked laws files classes marks rules old o set written h, refl)
 
 pub own_paired : PassLaws → OwnFilesArePaired
 unfolding checked own_pairs
-own_paired laws files classes marks rules o set written h =
-    let own = own_pairs laws files classes marks rules o set written h in
-    let first = taken laws files classes marks rules o set written h in
-    let output = does laws files classes marks rules o set written h in
+own_paired laws files classes marks rules old o set written h =
+    let own = own_pairs laws files classes marks rules old o set written h in
+    let first = taken laws files classes marks rules old o set written h in
+    let output = does laws files classes marks rules old o set written h in
     record {
       written = written;
       below = h.below;
       pair = own.0;
-      mapping_read = own_mapping_is_read laws files classes marks rules o set written h;
-      witness_read = (own_witness_is_read laws files classes marks rules o set written h).1;
+      mapping_read = own_mapping_is_read laws files classes marks rules old o set written h;
+      witness_read = (own_witness_is_read laws files classes marks rules old o set written h).1;
       names = output.names;
       same = output.same;
       whole = λ entries are. same_whole classes first h.accepted.typed (view_of own.0.output)
@@ -146,7 +148,8 @@ own_paired laws files classes marks rules o set written h =
 
 -- the files that it tells by their paths below the output directory are those that were written
 pub own_written : (laws : PassLaws) (files : List FileAt) (classes : List Class) (marks : List Bool) (rules : Rules)
-    (o : Optimised) (set : ShrunkSet) (written : List FileAt) (h : AreWritten files classes marks rules o set written)
-    → (own_paired laws files classes marks rules o set written h).written ≡ written
+    (old : Option Mapping) (o : Optimised) (set : ShrunkSet) (written : List FileAt)
+    (h : AreWritten files classes marks rules old o set written)
+    → (own_paired laws files classes marks rules old o set written h).written ≡ written
 unfolding own_paired
-own_written laws files classes marks rules o set written h = refl
+own_written laws files classes marks rules old o set written h = refl

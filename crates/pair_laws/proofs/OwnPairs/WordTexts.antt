@@ -135,6 +135,7 @@ said_text words (grammar.source_name name) h texts =
 said_text words (grammar.in_dir directory) h texts = tt
 said_text words (grammar.out_dir directory) h texts = tt
 said_text words (grammar.mapping file) h texts = tt
+said_text words (grammar.apply file) h texts = tt
 said_text words (grammar.seeds file) h texts = tt
 said_text words (grammar.usage file) h texts = tt
 said_text words grammar.no_shrink h texts = tt

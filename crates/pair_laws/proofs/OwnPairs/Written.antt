@@ -7,6 +7,8 @@ use Rattle.std.specs.Option.{option_map}
 use Rattle.std.specs.Str.{IsUtf8}
 use Rattle.std.proofs.lemmas.List.{drop_at}
 use Rattle.std.proofs.lemmas.Option.{same_Some, slice_get-map}
+use Rattle.mapping_file.specs.Mappings.{IsMapping}
+use Rattle.mapping_file.specs.declared.mapping.Mapping.{Mapping}
 use Rattle.jv_base.proofs.Lists.{all_at, all_from}
 use Rattle.tree_io.specs.Below.{front_of}
 use Rattle.tree_io.specs.declared.file_at.FileAt.{FileAt}
@@ -69,24 +71,25 @@ module _ (directory : List ℕ) where
 
 -- ---- what is left can be written
 
-module _ (classes : List Class) (marks : List Bool) (rules : Rules) (taken : IsTaken classes)
+module _ (classes : List Class) (marks : List Bool) (rules : Rules) (old : Option Mapping) (has : IfSome old IsMapping)
+    (taken : IsTaken classes)
     (closed : Closed (required classes rules) (set_of marks)) (utf8 : IfSome rules.source_name IsUtf8)
     (all : AllByRecursion IsWritable classes) where
   abbrev new : List Class
-  new = renamed_of classes marks rules
+  new = renamed_of classes marks rules old
 
   linked : IsLinked classes
   linked = record { files = taken.files; ascend = taken.ascend; built = taken.built; linked = taken.linked }
 
-  each_writable : (k : ℕ) (d : Class) → slice_get (left_of classes marks rules) k ≡ Some d → IsWritable d
+  each_writable : (k : ℕ) (d : Class) → slice_get (left_of classes marks rules old) k ≡ Some d → IsWritable d
   each_writable k d at =
       by (slice_get (in_order new) k) refl (sym (slice_get-map (filtered (filter_of rules)) (in_order new) k) ∙ at)
     where
       there : (e : Class) → slice_get (in_order new) k ≡ Some e → IsWritable e
       there e is =
-          let moved = places new (in_order new) (all_written classes rules marks linked) in
+          let moved = places new (in_order new) (all_written classes rules old marks linked) in
           let order : IsReordered moved.0 moved.1 new (in_order new) = moved.2 in
-          all_at IsWritable new (moved.1 k) e (kept_writable classes rules marks linked closed all)
+          all_at IsWritable new (moved.1 k) e (kept_writable classes rules old marks has linked closed all)
           (sym (order.at (moved.1 k)) ∙ ap (slice_get (in_order new)) (order.from k) ∙ is)
 
       by : (o : Option Class) → slice_get (in_order new) k ≡ o → option_map (filtered (filter_of rules)) o ≡ Some d
@@ -95,5 +98,5 @@ module _ (classes : List Class) (marks : List Bool) (rules : Rules) (taken : IsT
       by (Some c) e is = subst IsWritable (same_Some (filtered (filter_of rules) c) d is)
           (filtered_writable (filter_of rules) c utf8 (there c e))
 
-  pub left_writable : AllByRecursion IsWritable (left_of classes marks rules)
-  left_writable = all_from IsWritable (left_of classes marks rules) each_writable
+  pub left_writable : AllByRecursion IsWritable (left_of classes marks rules old)
+  left_writable = all_from IsWritable (left_of classes marks rules old) each_writable

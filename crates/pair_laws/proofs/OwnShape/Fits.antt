@@ -1,6 +1,6 @@
 -- The mapping of a set that is taken fits the set and what is left of it.
 use Rattle.std.proofs.Common.{◌≡◌, ◌≢◌, inr, ℕ, not, Bool, true, false, cond, List, [], ◌∷◌, map, None, refl}
-use Rattle.std.proofs.Common.{sym, ap, ◌∙◌}
+use Rattle.std.proofs.Common.{sym, ap, subst, ◌∙◌}
 use Rattle.std.specs.Prelude.{IsPermutation}
 use Rattle.std.specs.List.{AllByRecursion, list_any}
 use Rattle.std.specs.Option.{option_map, option_or}
@@ -8,6 +8,7 @@ use Rattle.std.proofs.lemmas.List.Elements.{All-from_recursion, recursion_from_A
 use Rattle.std.proofs.lemmas.List.Sorted.{All-permutation, IsPermutation-sym}
 use Rattle.std.proofs.lemmas.Option.{slice_get-map}
 use Rattle.jv_base.specs.Names.{is_text}
+use Rattle.jv_base.specs.Types.{method_text}
 use Rattle.jv_base.proofs.Equality.{text_itself}
 use Rattle.jv_base.proofs.Lists.{all_from, all_mapped, any_at}
 use Rattle.class_model.specs.declared.class.Class.{Class}
@@ -16,13 +17,15 @@ use Rattle.class_model.specs.declared.class.Method.{Method}
 use Rattle.attribute_filter.specs.Filtered.{filtered}
 use Rattle.attribute_filter.specs.KeptAttributes.{filter_of}
 use Rattle.attribute_filter.specs.declared.filter.AttributeFilter.{AttributeFilter}
-use Rattle.class_rename.specs.Names.{Names, same_names}
+use Rattle.class_rename.specs.Names.{Names, Tables, same_names}
 use Rattle.class_rename.specs.Renamed.{renamed}
 use Rattle.fresh_names.specs.Fresh.{is_taken}
-use Rattle.fresh_names.specs.Given.{class_names, field_names, front_of, given_name, method_names, no_front}
-use Rattle.fresh_names.proofs.Tables.{classes_differ, members_differ}
+use Rattle.fresh_names.specs.Given.{class_names, field_names, method_names, of_type}
+use Rattle.fresh_names.proofs.Tables.{classes_differ, fields_differ, methods_differ}
 use Rattle.mapping_file.specs.declared.mapping.MapClass.{MapClass}
+use Rattle.mapping_file.specs.declared.mapping.Mapping.{Mapping}
 use Rattle.member_shrink.specs.Shrunk.{shrunk}
+use Rattle.new_names.specs.NewNames.{NameAndType, tables_of}
 use Rattle.rename_map.specs.Fixed.{Stay, names_that_stay}
 use Rattle.rename_map.specs.MappingOf.{class_lines, mapping_of}
 use Rattle.rename_map.specs.Names.{given_beside}
@@ -38,10 +41,10 @@ use Rattle.pair_laws.proofs.OwnNames.Apart.{name_among}
 use Rattle.pair_laws.proofs.OwnNames.Ordered.{left_renamed, linked_of}
 use Rattle.pair_laws.specs.OwnShape.Laws.{OwnMappingFits}
 use Rattle.pair_laws.proofs.OwnShape.Clashing.{TellsApart}
-use Rattle.pair_laws.proofs.OwnShape.Lines.{AreApart, IsGood, lines_fit}
+use Rattle.pair_laws.proofs.OwnShape.Lines.{AreApart, IsGood, lines_fit, new_named}
 use Rattle.pair_laws.proofs.OwnShape.Members.{IsThere, found_some, kept_there}
 use Rattle.pair_laws.proofs.OwnShape.Searching.{Differ}
-use Rattle.pair_laws.proofs.RenamedForm.GivenWritable.{in_kept}
+use Rattle.pair_laws.proofs.RenamedForm.GivenWritable.{in_kept, method_among}
 
 -- ---- classes that are left
 
@@ -103,22 +106,19 @@ IsClassName kept a = is_taken (class_names kept) a ≡ true
 abbrev IsFieldName : List Class → List ℕ → Type 0
 IsFieldName kept a = is_taken (field_names kept) a ≡ true
 
-abbrev IsMethodName : List Class → List ℕ → Type 0
-IsMethodName kept a = is_taken (method_names kept) a ≡ true
+abbrev IsMethodName : List Class → NameAndType → Type 0
+IsMethodName kept m = is_taken (of_type m.1 (method_names kept)) m.0 ≡ true
 
-module _ (classes kept : List Class) (class field method : List ℕ → List ℕ) (lines : Bool) (filter : AttributeFilter)
-    (classes_told : TellsApart (IsClassName kept) class) (fields_told : TellsApart (IsFieldName kept) field)
-    (methods_told : TellsApart (IsMethodName kept) method) (there : AllByRecursion (IsThere classes) kept)
+module _ (classes kept : List Class) (names : Names) (lines : Bool) (filter : AttributeFilter)
+    (classes_told : TellsApart (IsClassName kept) names.class) (fields_told : TellsApart (IsFieldName kept) names.field)
+    (methods_told : TellsApart (IsMethodName kept) (new_named names)) (there : AllByRecursion (IsThere classes) kept)
     (apart : order.AreApart kept) (left : List Class) where
-  abbrev names : Names
-  names = record { class = class; field = field; method = λ name descriptor. method name }
-
   abbrev Good : Class → Type 0
-  Good c = IsGood classes class field method lines (IsClassName kept) (IsFieldName kept) (IsMethodName kept) fields_told
+  Good c = IsGood classes names lines (IsClassName kept) (IsFieldName kept) (IsMethodName kept) fields_told
       methods_told left c
 
   abbrev Apart : Class → Class → Type 0
-  Apart b c = AreApart classes class field method lines (IsClassName kept) (IsFieldName kept) (IsMethodName kept)
+  Apart b c = AreApart classes names lines (IsClassName kept) (IsFieldName kept) (IsMethodName kept)
       fields_told methods_told left b c
 
   others_apart : (c : Class) (cs : List Class) → IsClassName kept c.name
@@ -135,6 +135,9 @@ module _ (classes kept : List Class) (class field method : List ℕ → List ℕ
   all_apart [] all apart = tt
   all_apart (c ∷ cs) all apart = (others_apart c cs all.0 all.1 apart.0, all_apart cs all.1 apart.1)
 
+  abbrev HasMethodNames : Class → Type 0
+  HasMethodNames c = AllByRecursion (λ (m : Method). IsMethodName kept (m.name, method_text m.ty)) c.methods
+
   module _ (same : IsPermutation (map (renamed names) (map (filtered filter) kept)) left) where
     good : AllByRecursion Good kept
     good = goes kept there (all_left names lines filter kept left same)
@@ -142,15 +145,14 @@ module _ (classes kept : List Class) (class field method : List ℕ → List ℕ
         (λ k c at. all_from (λ (f : Field). IsFieldName kept f.name) c.fields
         (λ j f is. in_kept (λ (c : Class). map (λ (f : Field). f.name) c.fields) kept k c at f.name
         (name_among (λ (f : Field). f.name) c.fields j f is))))
-        (all_from (λ (c : Class). AllByRecursion (λ (m : Method). IsMethodName kept m.name) c.methods) kept
-        (λ k c at. all_from (λ (m : Method). IsMethodName kept m.name) c.methods
-        (λ j m is. in_kept (λ (c : Class). map (λ (m : Method). m.name) c.methods) kept k c at m.name
-        (name_among (λ (m : Method). m.name) c.methods j m is))))
+        (all_from HasMethodNames kept
+        (λ k c at. all_from (λ (m : Method). IsMethodName kept (m.name, method_text m.ty)) c.methods
+        (λ j m is. method_among kept k c at j m is)))
       where
         goes : (cs : List Class) → AllByRecursion (IsThere classes) cs
-            → AllByRecursion (λ (c : Class). has_class left (class c.name) ≡ true) cs
+            → AllByRecursion (λ (c : Class). has_class left (names.class c.name) ≡ true) cs
             → AllByRecursion (λ (c : Class). AllByRecursion (λ (f : Field). IsFieldName kept f.name) c.fields) cs
-            → AllByRecursion (λ (c : Class). AllByRecursion (λ (m : Method). IsMethodName kept m.name) c.methods) cs
+            → AllByRecursion HasMethodNames cs
             → AllByRecursion Good cs
         goes [] t l f m = tt
         goes (c ∷ cs) t l f m =
@@ -158,7 +160,7 @@ module _ (classes kept : List Class) (class field method : List ℕ → List ℕ
 
     fits : None ≡ shape_fault classes left (mapping_of names lines kept)
     fits = λ i. option_or
-        (sym (lines_fit classes class field method lines (IsClassName kept) (IsFieldName kept) (IsMethodName kept)
+        (sym (lines_fit classes names lines (IsClassName kept) (IsFieldName kept) (IsMethodName kept)
         fields_told methods_told left kept good
         (all_apart kept
         (all_from (λ (c : Class). IsClassName kept c.name) kept
@@ -166,26 +168,34 @@ module _ (classes kept : List Class) (class field method : List ℕ → List ℕ
         apart)) i)
         (sym (unlined_none (map (class_lines names lines) kept) left (all_lined names lines filter kept left same)) i)
 
-fits_by : (obfuscate : Bool) (stay : Stay) (lines : Bool) (filter : AttributeFilter) (classes kept left : List Class)
-    → AllByRecursion (IsThere classes) kept → order.AreApart kept
-    → IsPermutation (map (renamed (cond obfuscate (given_beside stay kept) same_names)) (map (filtered filter) kept))
+fits_by : (obfuscate : Bool) (stay : Stay) (old : Tables) (lines : Bool) (filter : AttributeFilter)
+    (classes kept left : List Class) → AllByRecursion (IsThere classes) kept → order.AreApart kept
+    → IsPermutation (map (renamed (cond obfuscate (given_beside stay old kept) same_names)) (map (filtered filter) kept))
     left
-    → None ≡ shape_fault classes left (mapping_of (cond obfuscate (given_beside stay kept) same_names) lines kept)
-fits_by true stay lines filter classes kept left there apart same =
-    fits classes kept (given_name front_of stay.classes (class_names kept))
-    (given_name no_front stay.fields (field_names kept)) (given_name no_front stay.methods (method_names kept)) lines
-    filter
-    (record { one = λ a b h k same. classes_differ stay.classes (class_names kept) a b (inr h) (inr k) same })
-    (record { one = λ a b h k same. members_differ stay.fields (field_names kept) a b (inr h) (inr k) same })
-    (record { one = λ a b h k same. members_differ stay.methods (method_names kept) a b (inr h) (inr k) same })
-    there apart left same
-fits_by false stay lines filter classes kept left there apart same =
-    fits classes kept (λ name. name) (λ name. name) (λ name. name) lines filter
+    → None ≡ shape_fault classes left (mapping_of (cond obfuscate (given_beside stay old kept) same_names) lines kept)
+fits_by true stay old lines filter classes kept left there apart same =
+    fits classes kept (given_beside stay old kept) lines filter
+    (record { one = λ a b h k same. classes_differ old.classes stay.classes (class_names kept) a b (inr h) (inr k) same })
+    (record { one = λ a b h k same. fields_differ old.fields stay.fields (field_names kept) a b (inr h) (inr k) same })
+    (record { one = one_method }) there apart left same
+  where
+    one_method : (a b : NameAndType) → IsMethodName kept a → IsMethodName kept b
+        → new_named (given_beside stay old kept) a ≡ new_named (given_beside stay old kept) b → a ≡ b
+    one_method a b h k same =
+        let descriptor : a.1 ≡ b.1 = ap (λ (n : NameAndType). n.1) same in
+        let name = methods_differ old.methods stay.methods (method_names kept) a.1 a.0 b.0 (inr h)
+        (inr (subst (λ (d : List ℕ). is_taken (of_type d (method_names kept)) b.0 ≡ true) (sym descriptor) k))
+        (ap (λ (n : NameAndType). n.0) same
+        ∙ ap (λ (d : List ℕ). (given_beside stay old kept).method b.0 d) (sym descriptor)) in
+        λ i. (name i, descriptor i)
+fits_by false stay old lines filter classes kept left there apart same =
+    fits classes kept same_names lines filter
     (record { one = λ a b h k same. same }) (record { one = λ a b h k same. same })
     (record { one = λ a b h k same. same }) there apart left same
 
 pub mapping_fits : OwnMappingFits
-mapping_fits classes marks rules taken =
-    fits_by rules.obfuscate (names_that_stay rules classes) (filter_of rules).line_numbers (filter_of rules) classes
-    (shrunk classes marks) (left_of classes marks rules) (kept_there classes taken marks)
-    (kept_apart classes marks (set_apart classes (linked_of classes taken))) (left_renamed classes marks rules taken)
+mapping_fits classes marks rules old taken =
+    fits_by rules.obfuscate (names_that_stay rules classes) (tables_of old) (filter_of rules).line_numbers
+    (filter_of rules) classes (shrunk classes marks) (left_of classes marks rules old) (kept_there classes taken marks)
+    (kept_apart classes marks (set_apart classes (linked_of classes taken)))
+    (left_renamed classes marks rules old taken)

@@ -35,19 +35,20 @@ use Rattle.mapping_file.specs.declared.mapping.MapClass.{MapClass}
 use Rattle.mapping_file.specs.declared.mapping.MapField.{MapField}
 use Rattle.mapping_file.specs.declared.mapping.MapMethod.{MapMethod}
 use Rattle.mapping_file.specs.declared.mapping.Mapping.{Mapping}
-use Rattle.new_names.specs.NewNames.{all_field_names, all_method_names, class_line, class_lines, field_in}
-use Rattle.new_names.specs.NewNames.{field_names, method_in, method_names, names_given}
+use Rattle.new_names.specs.NewNames.{NameAndType, all_field_names, class_line, class_lines, field_in}
+use Rattle.new_names.specs.NewNames.{field_names, is_same, method_in, names_given}
 use Rattle.new_names.specs.NewNames.{names_of}
-use Rattle.new_names.specs.NewNames.{new_class, new_field, new_method}
+use Rattle.new_names.specs.NewNames.{new_class, new_field, new_method, range_in}
 use Rattle.new_names.specs.declared.class_names.ClassNames.{ClassNames}
 use Rattle.jvm_model.specs.Mapped.{OptionCorr}
 use Rattle.jvm_model.specs.Same.{LineCorr}
 use Rattle.pair_clauses.specs.Codes.{AreSameCodes, ClassCodeDiffers, IsSameBody}
-use Rattle.pair_clauses.specs.Finding.{FirstOf, FirstUnlike}
+use Rattle.pair_clauses.specs.Finding.{FirstOf, FirstUnlike, first_place}
 use Rattle.pair_clauses.specs.Members.{ClassDiffers, IsSameClass, IsSameField, IsSameMethod, LinedDiffers, NewField}
 use Rattle.pair_clauses.specs.Members.{NewMethod, expected_fields, expected_methods, new_one, with_name}
 use Rattle.pair_clauses.specs.Places.{class_place, place_of_field, place_of_method}
-use Rattle.pair_clauses.specs.Shape.{number_of}
+use Rattle.pair_clauses.specs.LineRanges.{class_range_fault, leaves_range, range_fault_of}
+use Rattle.pair_clauses.specs.Shape.{method_pairs, number_of}
 use Rattle.pair_clauses.specs.declared.place.Place.{Place}
 use Rattle.require_sys.proofs.Parts.{all_flat_map}
 use Rattle.image_laws.specs.TakenSet.TakenSet.{IsTaken}
@@ -58,8 +59,8 @@ use Rattle.pair_checker.specs.Clauses.{given_names}
 use Rattle.pair_laws.specs.PairSame.Pairs.{IsPair}
 use Rattle.pair_laws.proofs.PairSame.ClosedLines.{closed_lines}
 use Rattle.pair_laws.proofs.PairSame.Lined.{class_lined, field_lined, marks, method_lined}
-use Rattle.pair_laws.proofs.PairSame.Lines.{AreLines, IsLine, lines_right, no_place}
-use Rattle.pair_laws.proofs.PairSame.Tables.{IsFound, looked, found_among}
+use Rattle.pair_laws.proofs.PairSame.Lines.{AreLines, IsLine, first_none, lines_right, no_place}
+use Rattle.pair_laws.proofs.PairSame.Tables.{IsFound, all_method_pairs, found_among, looked, method_among_lines, pairs_tell}
 
 -- ---- searches that find nothing
 
@@ -104,6 +105,25 @@ module _ {A B : Type 0} (g : A → Option (List ℕ)) (p : ℕ → Bool) (R : A 
       by (Some new) e false t ys h r = absurd cc
       by (Some new) e true t [] h r = absurd h
       by (Some new) e true t (y ∷ ys) h r = (from x new y e h.0, r ys h.1)
+
+-- ---- ranges
+
+places_none : {A : Type 0} (fault : A → Option Place) (xs : List A) → first_place fault xs ≡ None
+    → AllByRecursion (λ x. fault x ≡ None) xs
+places_none fault [] h = tt
+places_none fault (x ∷ xs) h =
+    let s = first_none (fault x) (first_place fault xs) h in (s.0, places_none fault xs s.1)
+
+-- of methods that correspond none leaves its range, where none is told
+none_leaves : (R : NewMethod → Method → Type 0) (line : MapClass) (c : Class) (xs : List NewMethod) (ys : List Method)
+    → AllZip R xs ys → first_place (range_fault_of line c) (zip xs ys) ≡ None
+    → AllZip (λ (e : NewMethod) (y : Method). leaves_range (range_in line e.0) y.code ≡ false) xs ys
+none_leaves R line c [] [] z h = tt
+none_leaves R line c [] (y ∷ ys) z h = absurd z
+none_leaves R line c (e ∷ xs) [] z h = absurd z
+none_leaves R line c (e ∷ xs) (y ∷ ys) z h =
+    let s = first_none (range_fault_of line c (e, y)) (first_place (range_fault_of line c) (zip xs ys)) h in
+    (no_place (leaves_range (range_in line e.0) y.code) (place_of_method c e.0) s.0, none_leaves R line c xs ys z.1 s.1)
 
 -- ---- codes
 
@@ -200,33 +220,33 @@ module _ (input output : List Class) (mapping : Mapping) (rules : Rules) (taken 
   abbrev pub fields_table : List (List ℕ × List ℕ)
   fields_table = all_field_names mapping.classes
 
-  abbrev pub methods_table : List (List ℕ × List ℕ)
-  methods_table = all_method_names mapping.classes
+  abbrev pub methods_table : List (NameAndType × NameAndType)
+  methods_table = all_method_pairs mapping.classes
 
   -- ---- lines
 
   -- what holds of a line of a class
   pub record GoodLine (l : MapClass) : Type 0 where
     pub line : IsLine input output mapping.classes l
-    pub fields : AllByRecursion (IsFound fields_table) (field_names l.fields)
-    pub methods : AllByRecursion (IsFound methods_table) (method_names l.methods)
+    pub fields : AllByRecursion (IsFound is_text fields_table) (field_names l.fields)
+    pub methods : AllByRecursion (IsFound is_same methods_table) (method_pairs l.methods)
 
   pub all_good : AllByRecursion GoodLine mapping.classes
   all_good =
-      let fields = all_flat_map (IsFound fields_table) (λ (l : MapClass). field_names l.fields) mapping.classes
+      let fields = all_flat_map (IsFound is_text fields_table) (λ (l : MapClass). field_names l.fields) mapping.classes
       lines.fields in
-      let methods = all_flat_map (IsFound methods_table) (λ (l : MapClass). method_names l.methods) mapping.classes
+      let methods = all_flat_map (IsFound is_same methods_table) (λ (l : MapClass). method_pairs l.methods) mapping.classes
       lines.methods in
       all_weaker (λ (l : MapClass). IsLine input output mapping.classes l
-      × (AllByRecursion (IsFound fields_table) (field_names l.fields)
-      × AllByRecursion (IsFound methods_table) (method_names l.methods))) GoodLine
+      × (AllByRecursion (IsFound is_text fields_table) (field_names l.fields)
+      × AllByRecursion (IsFound is_same methods_table) (method_pairs l.methods))) GoodLine
       (λ l h. record { line = h.0; fields = h.1.0; methods = h.1.1 }) mapping.classes
       (all_both (IsLine input output mapping.classes)
-      (λ (l : MapClass). AllByRecursion (IsFound fields_table) (field_names l.fields)
-      × AllByRecursion (IsFound methods_table) (method_names l.methods)) mapping.classes lines.each
-      (all_both (λ (l : MapClass). AllByRecursion (IsFound fields_table) (field_names l.fields))
-      (λ (l : MapClass). AllByRecursion (IsFound methods_table)
-      (method_names l.methods)) mapping.classes fields methods))
+      (λ (l : MapClass). AllByRecursion (IsFound is_text fields_table) (field_names l.fields)
+      × AllByRecursion (IsFound is_same methods_table) (method_pairs l.methods)) mapping.classes lines.each
+      (all_both (λ (l : MapClass). AllByRecursion (IsFound is_text fields_table) (field_names l.fields))
+      (λ (l : MapClass). AllByRecursion (IsFound is_same methods_table)
+      (method_pairs l.methods)) mapping.classes fields methods))
 
   -- the line of a class
   pub line_of : (name : List ℕ) (l : MapClass) → class_line mapping name ≡ Some l → GoodLine l × (l.old ≡ name)
@@ -244,11 +264,11 @@ module _ (input output : List Class) (mapping : Mapping) (rules : Rules) (taken 
 
   -- the names of members with lines are those of the tables
   pub field_found : (c : Class) (x : Field) (new : List ℕ) → new_field mapping c x ≡ Some new
-      → IsFound fields_table (x.name, new)
+      → IsFound is_text fields_table (x.name, new)
   field_found c x new e = by (class_line mapping c.name) refl e
     where
       by : (o : Option MapClass) → class_line mapping c.name ≡ o → option_and_then (λ l. field_in l x) o ≡ Some new
-          → IsFound fields_table (x.name, new)
+          → IsFound is_text fields_table (x.name, new)
       by None is e = absurd cc
       by (Some l) is e =
           let good = (line_of c.name l is).0 in
@@ -256,22 +276,22 @@ module _ (input output : List Class) (mapping : Mapping) (rules : Rules) (taken 
           (λ (m : MapField). m.new) l.fields x.name (field_text x.ty) new good.fields e
 
   pub method_found : (c : Class) (x : Method) (new : List ℕ) → new_method mapping c x ≡ Some new
-      → IsFound methods_table (x.name, new)
+      → IsFound is_same methods_table ((x.name, method_text x.ty), (new, method_text x.ty))
   method_found c x new e = by (class_line mapping c.name) refl e
     where
       by : (o : Option MapClass) → class_line mapping c.name ≡ o → option_and_then (λ l. method_in l x) o ≡ Some new
-          → IsFound methods_table (x.name, new)
+          → IsFound is_same methods_table ((x.name, method_text x.ty), (new, method_text x.ty))
       by None is e = absurd cc
       by (Some l) is e =
           let good = (line_of c.name l is).0 in
-          found_among methods_table (λ (m : MapMethod). m.old) (λ (m : MapMethod). method_text m.ty)
-          (λ (m : MapMethod). m.new) l.methods x.name (method_text x.ty) new good.methods e
+          method_among_lines methods_table l.methods (x.name, method_text x.ty) new good.methods e
 
-  pub field_name : (a new : List ℕ) → IsFound fields_table (a, new) → names.field a ≡ new
+  pub field_name : (a new : List ℕ) → IsFound is_text fields_table (a, new) → names.field a ≡ new
   field_name a new h = ap (λ o. unwrap_or o a) h.old
 
-  pub method_name : (a new d : List ℕ) → IsFound methods_table (a, new) → names.method a d ≡ new
-  method_name a new d h = ap (λ o. unwrap_or o a) h.old
+  pub method_name : (a new d : List ℕ) → IsFound is_same methods_table ((a, d), (new, d)) → names.method a d ≡ new
+  method_name a new d h =
+      pairs_tell mapping.classes (a, d) ∙ ap (λ (o : Option NameAndType). (unwrap_or o (a, d)).0) h.old
 
   -- ---- the class of the output
 
@@ -419,6 +439,33 @@ module _ (input output : List Class) (mapping : Mapping) (rules : Rules) (taken 
       (expected_kept (new_method mapping c) (is_marked lined) (IsSameBody mapping (filter_of rules)) (HasNewCode names)
       (λ x new y e h. code_new mapping (filter_of rules) x.code y.code h) (method_item n c) c.methods o.out.methods
       (methods_told n c at) (compared n c at o).bodies)
+
+  -- the lines of each code lie in the range of its method, if one is told
+  range_at : (n : ℕ) (c : Class) → slice_get input n ≡ Some c
+      → class_range_fault (class_line mapping c.name) c (names_given mapping c) (new_one output (names_given mapping c))
+      ≡ None
+  range_at n c at =
+      all_at (λ (c : Class). class_range_fault (class_line mapping c.name) c (names_given mapping c)
+      (new_one output (names_given mapping c)) ≡ None) input n c
+      (zip_given (λ (p : Class × ClassNames). class_range_fault (class_line mapping p.0.name) p.0 p.1
+      (new_one output p.1) ≡ None) (names_given mapping) input
+      (places_none (λ (p : Class × ClassNames). class_range_fault (class_line mapping p.0.name) p.0 p.1
+      (new_one output p.1)) (zip input (given_names mapping input)) (sym pair.ranges))) at
+
+  pub ranges_new : (n : ℕ) (c : Class) → slice_get input n ≡ Some c → (o : NewOne c)
+      → AllZip (λ (x y : Method). leaves_range (range_in o.line x) y.code ≡ false) (f input lined n c).methods
+      o.out.methods
+  ranges_new n c at o =
+      subst (λ (t : List Method). AllZip (λ (x y : Method). leaves_range (range_in o.line x) y.code ≡ false) t
+      o.out.methods)
+      (sym (as_filter (is_marked lined) (λ k x. x) (method_item n c) c.methods))
+      (expected_kept (new_method mapping c) (is_marked lined)
+      (λ (e : NewMethod) (y : Method). leaves_range (range_in o.line e.0) y.code ≡ false)
+      (λ (x y : Method). leaves_range (range_in o.line x) y.code ≡ false)
+      (λ x new y e h. h) (method_item n c) c.methods o.out.methods (methods_told n c at)
+      (none_leaves (IsSameMethod mapping (filter_of rules)) o.line c (expected_methods c (names_given mapping c))
+      o.out.methods (compared n c at o).methods
+      ((λ i. class_range_fault (sym o.line_is i) c (names_given mapping c) (sym o.one i)) ∙ range_at n c at)))
 
   -- a class that is left, with what it was and what it becomes
   pub record Becomes (j : ℕ) (d : Class) : Type 0 where

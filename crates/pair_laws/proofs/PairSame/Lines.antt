@@ -1,5 +1,5 @@
 -- What the clause MapShape gives: each line of a class names one of the input and one of the output, both once, each
--- line of a member names one of its class, and names of fields, and of methods, are one to one.
+-- line of a member names one of its class, and names of fields, and of methods of one descriptor, are one to one.
 use Rattle.std.proofs.Common.{◌≡◌, ℕ, ◌||◌, not, Bool, true, false, cond, List, [], ◌∷◌, ◌++◌, map, Option, Some}
 use Rattle.std.proofs.Common.{None, refl}
 use Rattle.std.proofs.Common.{sym, ap, subst, ◌∙◌}
@@ -16,16 +16,17 @@ use Rattle.mapping_file.specs.declared.mapping.MapClass.{MapClass}
 use Rattle.mapping_file.specs.declared.mapping.MapField.{MapField}
 use Rattle.mapping_file.specs.declared.mapping.MapMethod.{MapMethod}
 use Rattle.mapping_file.specs.declared.mapping.Mapping.{Mapping}
-use Rattle.new_names.specs.NewNames.{all_field_names, all_method_names, class_lines, field_names, is_same}
-use Rattle.new_names.specs.NewNames.{method_names}
+use Rattle.new_names.specs.NewNames.{NameAndType, all_field_names, class_lines, field_names, is_same}
 use Rattle.pair_clauses.specs.Finding.{first_place}
 use Rattle.pair_clauses.specs.Places.{class_place, field_place, method_place, place_if}
 use Rattle.pair_clauses.specs.Shape.{clashes, field_fault, field_named, fields_fault, has_class, has_member}
 use Rattle.pair_clauses.specs.Shape.{is_field_wrong, is_line_at_fault, is_method_wrong, is_stray, line_fault}
 use Rattle.pair_clauses.specs.Shape.{lines_fault}
-use Rattle.pair_clauses.specs.Shape.{method_fault, method_named, methods_fault, shape_fault, unlined_fault}
+use Rattle.pair_clauses.specs.Shape.{method_fault, method_named, method_pairs, method_renamed, methods_fault, shape_fault}
+use Rattle.pair_clauses.specs.Shape.{unlined_fault}
 use Rattle.pair_clauses.specs.declared.place.Place.{Place}
-use Rattle.pair_laws.proofs.PairSame.Tables.{AreOne, Names, lookup_append, one_more}
+use Rattle.pair_laws.proofs.PairSame.Tables.{AreOne, IsTest, all_method_pairs, lookup_append, named_test, one_more}
+use Rattle.pair_laws.proofs.PairSame.Tables.{text_test}
 
 -- ---- faults that aren't there
 
@@ -53,27 +54,27 @@ flat_more {X} {Y} g (y ∷ xs) x = ap (λ (t : List Y). g y ++ t) (flat_more g x
 -- ---- lines of members
 
 -- behind names that are one to one, lines without a fault are so too
-module _ {L : Type 0} (name : L → List ℕ × List ℕ) where
-  names_more : (before : Names) (own : List L) (l : L)
+module _ {L K : Type 0} (same : K → K → Bool) (test : IsTest same) (name : L → K × K) where
+  names_more : (before : List (K × K)) (own : List L) (l : L)
       → before ++ map name (own ++ l ∷ []) ≡ (before ++ map name own) ++ name l ∷ []
   names_more before own l =
-      ap (λ (t : Names). before ++ t) (map-append name own (l ∷ []))
+      ap (λ (t : List (K × K)). before ++ t) (map-append name own (l ∷ []))
       ∙ sym (append_assoc before (map name own) (name l ∷ []))
 
   module _ (wrong : List L → L → Bool) (fault : List L → List L → Option Place)
       (step : (own : List L) (l : L) (ls : List L) → fault own (l ∷ ls) ≡ None
       → (wrong own l ≡ false) × (fault (own ++ l ∷ []) ls ≡ None)) where
-    module _ (before : Names) (apart : (own : List L) (l : L) → wrong own l ≡ false
-        → clashes (before ++ map name own) (name l).0 (name l).1 ≡ false) where
-      names_one : (own ls : List L) → fault own ls ≡ None → AreOne (before ++ map name own)
-          → AreOne (before ++ map name (own ++ ls))
-      names_one own [] h one = subst (λ (t : List L). AreOne (before ++ map name t)) (sym (append-nil own)) one
+    module _ (before : List (K × K)) (apart : (own : List L) (l : L) → wrong own l ≡ false
+        → clashes same (before ++ map name own) (name l).0 (name l).1 ≡ false) where
+      names_one : (own ls : List L) → fault own ls ≡ None → AreOne same (before ++ map name own)
+          → AreOne same (before ++ map name (own ++ ls))
+      names_one own [] h one = subst (λ (t : List L). AreOne same (before ++ map name t)) (sym (append-nil own)) one
       names_one own (l ∷ ls) h one =
           let s = step own l ls h in
-          subst (λ (t : List L). AreOne (before ++ map name t)) (append_one own ls l)
+          subst (λ (t : List L). AreOne same (before ++ map name t)) (append_one own ls l)
           (names_one (own ++ l ∷ []) ls s.1
-          (subst AreOne (sym (names_more before own l))
-          (one_more (before ++ map name own) (name l).0 (name l).1 one (apart own l s.0))))
+          (subst (AreOne same) (sym (names_more before own l))
+          (one_more same test (before ++ map name own) (name l).0 (name l).1 one (apart own l s.0))))
 
     each_there : (P : L → Type 0) → ((own : List L) (l : L) → wrong own l ≡ false → P l) → (own ls : List L)
         → fault own ls ≡ None → AllByRecursion P ls
@@ -81,7 +82,10 @@ module _ {L : Type 0} (name : L → List ℕ × List ℕ) where
     each_there P from own (l ∷ ls) h =
         let s = step own l ls h in (from own l s.0, each_there P from (own ++ l ∷ []) ls s.1)
 
-module _ (input : List Class) (class : List ℕ) (before : Names) where
+there_of : (a b c : Bool) → ((not a || b) || c) ≡ false → a ≡ true
+there_of a b c h = not-false a (or_parts (not a) b (or_parts (not a || b) c h).0).0
+
+module _ (input : List Class) (class : List ℕ) (before : List (List ℕ × List ℕ)) where
   abbrev field_wrong : List MapField → MapField → Bool
   field_wrong own l = is_field_wrong input class before own l
 
@@ -93,6 +97,27 @@ module _ (input : List Class) (class : List ℕ) (before : Names) where
       (own ++ l ∷ []) ls) h in
       (no_place (field_wrong own l) (field_place class l.ty l.old) s.0, s.1)
 
+  abbrev field_name : MapField → List ℕ × List ℕ
+  field_name l = (l.old, l.new)
+
+  fields_there : (ls : List MapField) → fields_fault input class before [] ls ≡ None
+      → AllByRecursion (λ (l : MapField). has_member input class (field_named l) ≡ true) ls
+  fields_there ls h = each_there is_text text_test field_name field_wrong
+      (fields_fault input class before) field_step
+      (λ (l : MapField). has_member input class (field_named l) ≡ true)
+      (λ own l k. there_of (has_member input class (field_named l))
+      (list_any (λ key. is_same key (field_named l)) (map field_named own))
+      (clashes is_text (before ++ field_names own) l.old l.new) k) [] ls h
+
+  fields_one : (ls : List MapField) → fields_fault input class before [] ls ≡ None → AreOne is_text before
+      → AreOne is_text (before ++ field_names ls)
+  fields_one ls h one = names_one is_text text_test field_name field_wrong
+      (fields_fault input class before) field_step before
+      (λ own l k. (or_parts (is_stray input class (map field_named own) (field_named l))
+      (clashes is_text (before ++ field_names own) l.old l.new) k).1) [] ls h
+      (subst (AreOne is_text) (sym (append-nil before)) one)
+
+module _ (input : List Class) (class : List ℕ) (before : List (NameAndType × NameAndType)) where
   abbrev method_wrong : List MapMethod → MapMethod → Bool
   method_wrong own l = is_method_wrong input class before own l
 
@@ -104,48 +129,25 @@ module _ (input : List Class) (class : List ℕ) (before : Names) where
       (methods_fault input class before (own ++ l ∷ []) ls) h in
       (no_place (method_wrong own l) (method_place class l.ty l.old) s.0, s.1)
 
-  field_name : MapField → List ℕ × List ℕ
-  field_name l = (l.old, l.new)
-
-  method_name : MapMethod → List ℕ × List ℕ
-  method_name l = (l.old, l.new)
-
-  there_of : (a b c : Bool) → ((not a || b) || c) ≡ false → a ≡ true
-  there_of a b c h = not-false a (or_parts (not a) b (or_parts (not a || b) c h).0).0
-
-  fields_there : (ls : List MapField) → fields_fault input class before [] ls ≡ None
-      → AllByRecursion (λ (l : MapField). has_member input class (field_named l) ≡ true) ls
-  fields_there ls h = each_there (λ (l : MapField). (l.old, l.new)) field_wrong
-      (fields_fault input class before) field_step
-      (λ (l : MapField). has_member input class (field_named l) ≡ true)
-      (λ own l k. there_of (has_member input class (field_named l))
-      (list_any (λ key. is_same key (field_named l)) (map field_named own))
-      (clashes (before ++ field_names own) l.old l.new) k) [] ls h
+  abbrev method_pair : MapMethod → NameAndType × NameAndType
+  method_pair l = (method_named l, method_renamed l)
 
   methods_there : (ls : List MapMethod) → methods_fault input class before [] ls ≡ None
       → AllByRecursion (λ (l : MapMethod). has_member input class (method_named l) ≡ true) ls
-  methods_there ls h = each_there (λ (l : MapMethod). (l.old, l.new)) method_wrong
+  methods_there ls h = each_there is_same named_test method_pair method_wrong
       (methods_fault input class before) method_step
       (λ (l : MapMethod). has_member input class (method_named l) ≡ true)
       (λ own l k. there_of (has_member input class (method_named l))
       (list_any (λ key. is_same key (method_named l)) (map method_named own))
-      (clashes (before ++ method_names own) l.old l.new) k) [] ls h
+      (clashes is_same (before ++ method_pairs own) (method_named l) (method_renamed l)) k) [] ls h
 
-  fields_one : (ls : List MapField) → fields_fault input class before [] ls ≡ None → AreOne before
-      → AreOne (before ++ field_names ls)
-  fields_one ls h one = names_one (λ (l : MapField). (l.old, l.new)) field_wrong
-      (fields_fault input class before) field_step before
-      (λ own l k. (or_parts (is_stray input class (map field_named own) (field_named l))
-      (clashes (before ++ field_names own) l.old l.new) k).1) [] ls h
-      (subst AreOne (sym (append-nil before)) one)
-
-  methods_one : (ls : List MapMethod) → methods_fault input class before [] ls ≡ None → AreOne before
-      → AreOne (before ++ method_names ls)
-  methods_one ls h one = names_one (λ (l : MapMethod). (l.old, l.new)) method_wrong
+  methods_one : (ls : List MapMethod) → methods_fault input class before [] ls ≡ None → AreOne is_same before
+      → AreOne is_same (before ++ method_pairs ls)
+  methods_one ls h one = names_one is_same named_test method_pair method_wrong
       (methods_fault input class before) method_step before
       (λ own l k. (or_parts (is_stray input class (map method_named own) (method_named l))
-      (clashes (before ++ method_names own) l.old l.new) k).1) [] ls h
-      (subst AreOne (sym (append-nil before)) one)
+      (clashes is_same (before ++ method_pairs own) (method_named l) (method_renamed l)) k).1) [] ls h
+      (subst (AreOne is_same) (sym (append-nil before)) one)
 
 -- ---- lines of classes
 
@@ -199,14 +201,14 @@ module _ (input output : List Class) where
   -- what holds of lines without a fault
   pub record AreLines (lines : List MapClass) : Type 0 where
     pub each : AllByRecursion (IsLine lines) lines
-    pub fields : AreOne (all_field_names lines)
-    pub methods : AreOne (all_method_names lines)
+    pub fields : AreOne is_text (all_field_names lines)
+    pub methods : AreOne is_same (all_method_pairs lines)
 
-  abbrev fields_before : List MapClass → Names
+  abbrev fields_before : List MapClass → List (List ℕ × List ℕ)
   fields_before before = flat_map (λ (b : MapClass). field_names b.fields) before
 
-  abbrev methods_before : List MapClass → Names
-  methods_before before = flat_map (λ (b : MapClass). method_names b.methods) before
+  abbrev methods_before : List MapClass → List (NameAndType × NameAndType)
+  methods_before before = flat_map (λ (b : MapClass). method_pairs b.methods) before
 
   line_more : (before : List MapClass) (l : MapClass) → AreLines before → line_fault input output before l ≡ None
       → AreLines (before ++ l ∷ [])
@@ -242,9 +244,9 @@ module _ (input output : List Class) where
       record {
         each = all_append (IsLine (before ++ l ∷ [])) before (l ∷ [])
             (lines_still before (l ∷ []) before all.each) (own, tt);
-        fields = subst AreOne (sym (flat_more (λ (b : MapClass). field_names b.fields) before l))
+        fields = subst (AreOne is_text) (sym (flat_more (λ (b : MapClass). field_names b.fields) before l))
             (fields_one input l.old (fields_before before) l.fields t.0 all.fields);
-        methods = subst AreOne (sym (flat_more (λ (b : MapClass). method_names b.methods) before l))
+        methods = subst (AreOne is_same) (sym (flat_more (λ (b : MapClass). method_pairs b.methods) before l))
             (methods_one input l.old (methods_before before) l.methods t.1 all.methods);
       }
 

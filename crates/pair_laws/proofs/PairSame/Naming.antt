@@ -1,6 +1,6 @@
 -- The names that a pair's mapping gives keep apart all that is there: what the clauses MapShape, FixedName and Package
 -- give.
-use Rattle.std.proofs.Common.{◌≡◌, ◌⊎◌, inl, inr, ⊎_elim, ◌<◌, ℕ, zero, suc, ◌+◌, not, ◌||◌, Bool, true}
+use Rattle.std.proofs.Common.{◌≡◌, ◌⊎◌, inl, inr, ⊎_elim, ◌<◌, ℕ, zero, suc, ◌+◌, not, ◌||◌, ◌&&◌, Bool, true}
 use Rattle.std.proofs.Common.{false}
 use Rattle.std.proofs.Common.{cond, List, [], ◌∷◌, ◌++◌, length, map, Option, Some, None, slice_get, refl}
 use Rattle.std.proofs.Common.{sym, ap}
@@ -13,7 +13,7 @@ use Rattle.std.proofs.lemmas.Bool.{and_parts, or_right, and_from, not-false}
 use Rattle.std.proofs.lemmas.Option.{same_Some, slice_get-map}
 use Rattle.jv_base.specs.Names.{is_class_name, is_text}
 use Rattle.jv_base.specs.Types.{field_text, method_text}
-use Rattle.jv_base.proofs.Lists.{all_at, all_from, all_mapped, all_weaker, placed, found_at}
+use Rattle.jv_base.proofs.Lists.{all_append, all_at, all_from, all_mapped, all_weaker, placed, found_at}
 use Rattle.jv_base.proofs.Options.{some_there}
 use Rattle.jv_base.proofs.Equality.{text_itself, same_text}
 use Rattle.lib_table.specs.Lookups as table
@@ -31,6 +31,7 @@ use Rattle.class_pool.specs.declared.id.ClassId.TheVariants.{Prog, Lib}
 use Rattle.class_pool.proofs.Declaring.{named_there}
 use Rattle.class_rename.specs.Names as class_rename
 use Rattle.fresh_names.specs.Fresh.{is_taken}
+use Rattle.fresh_names.specs.Given.{stays_for}
 use Rattle.fresh_names.specs.Reserved.{library_names, reserved}
 use Rattle.fresh_names.specs.declared.taken.Named.TheVariants as named
 use Rattle.fresh_names.proofs.Reserved.{taken_parts}
@@ -41,13 +42,14 @@ use Rattle.mapping_file.specs.declared.mapping.MapMethod.{MapMethod}
 use Rattle.mapping_file.specs.declared.mapping.Mapping.{Mapping}
 use Rattle.member_shrink.specs.Shrunk.{is_marked}
 use Rattle.new_names.specs.NewNames.{NameAndType, class_line, field_in, field_lines, field_names, is_same, method_in}
-use Rattle.new_names.specs.NewNames.{method_lines, method_names, names_given, new_class, new_field, new_method}
+use Rattle.new_names.specs.NewNames.{method_lines, names_given, new_class, new_field, new_method}
 use Rattle.new_names.specs.declared.class_names.ClassNames.{ClassNames}
 use Rattle.pair_clauses.specs.Finding.{first_place}
 use Rattle.pair_clauses.specs.FixedNames.{Fixed, field_fault, fixed_by, fixed_in, is_misnamed, is_moved, is_renamed}
 use Rattle.pair_clauses.specs.FixedNames.{method_fault, moved_in}
 use Rattle.pair_clauses.specs.Places.{class_place, place_if, place_of_field, place_of_method}
-use Rattle.pair_clauses.specs.Shape.{field_named, has_class, has_member, method_named, number_of}
+use Rattle.pair_clauses.specs.Shape.{field_named, has_class, has_member, method_named, method_pairs, method_renamed}
+use Rattle.pair_clauses.specs.Shape.{number_of}
 use Rattle.pair_clauses.specs.declared.place.Place.{Place}
 use Rattle.rename_map.specs.Fixed.{names_that_stay}
 use Rattle.require_sys.proofs.Parts.{all_map}
@@ -74,9 +76,13 @@ use Rattle.pair_laws.proofs.PairSame.Expected.{renamed, some_under, zip_given}
 use Rattle.pair_laws.proofs.PairSame.Fixing as fixing
 use Rattle.pair_laws.proofs.PairSame.Lined.{field_lined, method_lined}
 use Rattle.pair_laws.proofs.PairSame.Lines.{first_none, no_place}
-use Rattle.pair_laws.proofs.PairSame.Tables.{IsFound, by_old}
+use Rattle.pair_laws.proofs.PairSame.Tables.{IsFound, all_method_pairs, by_old, looked, named_test, pairs_tell, text_test}
 
 -- ---- lists
+
+and_true : (b : Bool) → (b && true) ≡ b
+and_true true = refl
+and_true false = refl
 
 all_first : {A : Type 0} (fault : A → Option Place) (xs : List A) → first_place fault xs ≡ None
     → AllByRecursion (λ x. fault x ≡ None) xs
@@ -146,12 +152,13 @@ module _ (input output : List Class) (mapping : Mapping) (rules : Rules) (taken 
   field_fixed a h = or_right (not rules.obfuscate) (is_taken (names_that_stay rules input).fields a)
       (taken_parts _ (reserved named.Field) a ∙ or_right _ (is_taken (library_names false) a) h)
 
-  method_fixed : (a : List ℕ) → is_taken (reserved named.Method) a ≡ true → fixed.method a ≡ true
-  method_fixed a h = or_right (not rules.obfuscate) (is_taken (names_that_stay rules input).methods a)
+  method_fixed : (d a : List ℕ) → is_taken (reserved named.Method) a ≡ true → fixed.method d a ≡ true
+  method_fixed d a h =
+      or_right (not rules.obfuscate) (is_taken (stays_for (names_that_stay rules input).methods d) a)
       (taken_parts _ (reserved named.Method) a ∙ or_right _ (is_taken (reserved named.Method) a) h)
 
-  library_method_fixed : (a : List ℕ) → is_taken (library_names true) a ≡ true → fixed.method a ≡ true
-  library_method_fixed a h = method_fixed a
+  library_method_fixed : (d a : List ℕ) → is_taken (library_names true) a ≡ true → fixed.method d a ≡ true
+  library_method_fixed d a h = method_fixed d a
       (taken_parts (codes "<init>" ∷ (codes "<clinit>" ∷ [])) (library_names true) a
       ∙ or_right _ (is_taken (library_names true) a) h)
 
@@ -183,15 +190,16 @@ module _ (input output : List Class) (mapping : Mapping) (rules : Rules) (taken 
 
   method_right : (n : ℕ) (c : Class) → slice_get input n ≡ Some c → (k : ℕ) (x : Method)
       → slice_get c.methods k ≡ Some x → (new : List ℕ) → new_method mapping c x ≡ Some new
-      → is_misnamed fixed.method x.name new ≡ false
+      → is_misnamed (fixed.method (method_text x.ty)) x.name new ≡ false
   method_right n c at k x there new is =
       let one = all_at (λ (x : Method). method_fault fixed.method c (x, new_method mapping c x) ≡ None) c.methods k x
       (zip_given (λ (p : Method × Option (List ℕ)). method_fault fixed.method c p ≡ None)
       (new_method mapping c) c.methods
       (all_first (method_fault fixed.method c) (zip c.methods (map (new_method mapping c) c.methods))
       (fixed_at n c at).1)) there in
-      sym (ap (is_renamed fixed.method x.name) is)
-      ∙ no_place (is_renamed fixed.method x.name (new_method mapping c x)) (place_of_method c x) one
+      sym (ap (is_renamed (fixed.method (method_text x.ty)) x.name) is)
+      ∙ no_place (is_renamed (fixed.method (method_text x.ty)) x.name (new_method mapping c x)) (place_of_method c x)
+      one
 
   -- the member that a line names
   declared_of : (l : MapClass) → GoodLine input output mapping rules taken pair l → (named : NameAndType)
@@ -246,18 +254,18 @@ module _ (input output : List Class) (mapping : Mapping) (rules : Rules) (taken 
           ∙ ap (option_map (λ (y : MapField). ((y.old, field_text y.ty), y.new))) at) passes) in
           let given : new_field mapping c x.0 ≡ Some new.0 = ap (option_and_then (λ l. field_in l x.0)) class ∙ new.1 in
           let found = field_found input output mapping rules taken pair c x.0 new.0 given in
-          let own = all_at (λ (y : MapField). IsFound (fields_table input output mapping rules taken pair)
+          let own = all_at (λ (y : MapField). IsFound is_text (fields_table input output mapping rules taken pair)
           (y.old, y.new))
-          l.fields k m (all_map (IsFound (fields_table input output mapping rules taken pair))
+          l.fields k m (all_map (IsFound is_text (fields_table input output mapping rules taken pair))
           (λ (y : MapField). (y.old, y.new)) l.fields good.fields) at in
           let one : new.0 ≡ m.new = same_Some new.0 m.new (sym found.old
-          ∙ ap (by_old (fields_table input output mapping rules taken pair)) same ∙ own.old) in
+          ∙ ap (by_old is_text (fields_table input output mapping rules taken pair)) same ∙ own.old) in
           subst (λ (t : List ℕ). is_misnamed fixed.field m.old t ≡ false) one
           (subst (λ (t : List ℕ). is_misnamed fixed.field t new.0 ≡ false) same
           (field_right n c there j x.0 x.1 new.0 given))
 
   method_line_right : (l : MapClass) → GoodLine input output mapping rules taken pair l → (k : ℕ) (m : MapMethod)
-      → slice_get l.methods k ≡ Some m → is_misnamed fixed.method m.old m.new ≡ false
+      → slice_get l.methods k ≡ Some m → is_misnamed (fixed.method (method_text m.ty)) m.old m.new ≡ false
   method_line_right l good k m at =
       let has = all_at (λ (x : MapMethod). has_member input l.old (method_named x) ≡ true) l.methods k m
       good.line.methods at in
@@ -266,7 +274,7 @@ module _ (input output : List Class) (mapping : Mapping) (rules : Rules) (taken 
     where
       by : (n : ℕ) (c : Class) → slice_get input n ≡ Some c → c.name ≡ l.old → (o : Option ℕ)
           → position (is_field m.old (method_text m.ty)) c.fields ≡ o
-          → is_some (or_method c m.old (method_text m.ty) o) ≡ true → is_misnamed fixed.method m.old m.new ≡ false
+          → is_some (or_method c m.old (method_text m.ty) o) ≡ true → is_misnamed (fixed.method (method_text m.ty)) m.old m.new ≡ false
       by n c there name (Some j) e h = absurd
           (let x = placed (is_field m.old (method_text m.ty)) c.fields j e in
           let parts = and_parts (is_text x.0.name m.old) (is_text (method_text m.ty) (field_text x.0.ty)) x.2 in
@@ -288,22 +296,38 @@ module _ (input output : List Class) (mapping : Mapping) (rules : Rules) (taken 
           ∙ ap (option_map (λ (y : MapMethod). ((y.old, method_text y.ty), y.new))) at) passes) in
           let given : new_method mapping c x.0 ≡ Some new.0 = ap (option_and_then (λ l. method_in l x.0)) class
           ∙ new.1 in
+          let text : method_text m.ty ≡ method_text x.0.ty = same_text (method_text m.ty) (method_text x.0.ty) parts.1 in
+          let key : (let n : NameAndType = (x.0.name, method_text x.0.ty) in n) ≡ method_named m =
+          λ i. (same i, sym text i) in
           let found = method_found input output mapping rules taken pair c x.0 new.0 given in
           let own = all_at
-          (λ (y : MapMethod). IsFound (methods_table input output mapping rules taken pair) (y.old, y.new))
-          l.methods k m (all_map (IsFound (methods_table input output mapping rules taken pair))
-          (λ (y : MapMethod). (y.old, y.new)) l.methods good.methods) at in
-          let one : new.0 ≡ m.new = same_Some new.0 m.new (sym found.old
-          ∙ ap (by_old (methods_table input output mapping rules taken pair)) same ∙ own.old) in
-          subst (λ (t : List ℕ). is_misnamed fixed.method m.old t ≡ false) one
-          (subst (λ (t : List ℕ). is_misnamed fixed.method t new.0 ≡ false) same
+          (λ (y : MapMethod). IsFound is_same (methods_table input output mapping rules taken pair)
+          (method_named y, method_renamed y))
+          l.methods k m (all_map (IsFound is_same (methods_table input output mapping rules taken pair))
+          (λ (y : MapMethod). (method_named y, method_renamed y)) l.methods good.methods) at in
+          let both : (let n : NameAndType = (new.0, method_text x.0.ty) in n) ≡ method_renamed m =
+          same_Some (new.0, method_text x.0.ty) (method_renamed m) (sym found.old
+          ∙ ap (by_old is_same (methods_table input output mapping rules taken pair)) key ∙ own.old) in
+          let one : new.0 ≡ m.new = ap (λ (n : NameAndType). n.0) both in
+          subst (λ (t : List ℕ). is_misnamed (fixed.method (method_text m.ty)) m.old t ≡ false) one
+          (subst (λ (n : NameAndType). is_misnamed (fixed.method n.1) n.0 new.0 ≡ false) key
           (method_right n c there j.0 x.0 x.1 new.0 given))
 
   abbrev FieldRight : List ℕ × List ℕ → Type 0
   FieldRight p = is_misnamed fixed.field p.0 p.1 ≡ false
 
-  abbrev MethodRight : List ℕ × List ℕ → Type 0
-  MethodRight p = is_misnamed fixed.method p.0 p.1 ≡ false
+  -- a method's name with its descriptor is fixed
+  abbrev fixed_named : NameAndType → Bool
+  fixed_named n = fixed.method n.1 n.0
+
+  abbrev MethodRight : NameAndType × NameAndType → Type 0
+  MethodRight p = fixing.is_wrong is_same fixed_named p.0 p.1 ≡ false
+
+  -- a name that isn't misnamed isn't so with its descriptor
+  right_named : (old new d : List ℕ) → is_misnamed (fixed.method d) old new ≡ false → MethodRight ((old, d), (new, d))
+  right_named old new d h =
+      ap (λ (b : Bool). cond (fixed.method d old) (not b) (fixed.method d new))
+      (ap (λ (b : Bool). is_text old new && b) (text_itself d) ∙ and_true (is_text old new)) ∙ h
 
   fields_right : AllByRecursion FieldRight (fields_table input output mapping rules taken pair)
   fields_right =
@@ -316,20 +340,73 @@ module _ (input output : List Class) (mapping : Mapping) (rules : Rules) (taken 
 
   methods_right : AllByRecursion MethodRight (methods_table input output mapping rules taken pair)
   methods_right =
-      flat_from MethodRight (λ (l : MapClass). method_names l.methods) mapping.classes
+      flat_from MethodRight (λ (l : MapClass). method_pairs l.methods) mapping.classes
       (all_weaker (GoodLine input output mapping rules taken pair)
-      (λ (l : MapClass). AllByRecursion MethodRight (method_names l.methods))
-      (λ l good. all_mapped MethodRight (λ (m : MapMethod). (m.old, m.new)) l.methods
-      (all_from (λ (m : MapMethod). MethodRight (m.old, m.new)) l.methods (method_line_right l good))) mapping.classes
+      (λ (l : MapClass). AllByRecursion MethodRight (method_pairs l.methods))
+      (λ l good. all_mapped MethodRight (λ (m : MapMethod). (method_named m, method_renamed m)) l.methods
+      (all_from (λ (m : MapMethod). MethodRight (method_named m, method_renamed m)) l.methods
+      (λ k m at. right_named m.old m.new (method_text m.ty) (method_line_right l good k m at)))) mapping.classes
       (all_good input output mapping rules taken pair))
+
+  -- ---- names of methods, with their descriptors
+
+  abbrev Keeps : NameAndType × NameAndType → Type 0
+  Keeps p = p.1.1 ≡ p.0.1
+
+  own_keep : (ms : List MapMethod) → AllByRecursion Keeps (method_pairs ms)
+  own_keep [] = tt
+  own_keep (m ∷ ms) = (refl, own_keep ms)
+
+  -- a pair has one descriptor
+  all_keep : (lines : List MapClass) → AllByRecursion Keeps (all_method_pairs lines)
+  all_keep [] = tt
+  all_keep (l ∷ lines) = all_append Keeps (method_pairs l.methods) (all_method_pairs lines) (own_keep l.methods)
+      (all_keep lines)
+
+  abbrev new_named : NameAndType → NameAndType
+  new_named = fixing.new_of is_same named_test (methods_table input output mapping rules taken pair) fixed_named
+      methods_right
+
+  -- so a method keeps its descriptor in the table
+  descriptor_stays : (n : NameAndType) → (new_named n).1 ≡ n.1
+  descriptor_stays n = by (by_old is_same (methods_table input output mapping rules taken pair) n) refl
+    where
+      by : (o : Option NameAndType) → by_old is_same (methods_table input output mapping rules taken pair) n ≡ o
+          → (unwrap_or o n).1 ≡ n.1
+      by None e = refl
+      by (Some new) e =
+          let h = looked Keeps (λ name. is_same name n) (methods_table input output mapping rules taken pair) new
+          (all_keep mapping.classes) e in
+          h.holds ∙ ap (λ (k : NameAndType). k.1) (named_test.one h.key n h.passes)
+
+  method_is : (a d : List ℕ) → new_names.method a d ≡ (new_named (a, d)).0
+  method_is a d = pairs_tell mapping.classes (a, d)
+
+  -- one new name with one descriptor
+  named_same : (a b d : List ℕ) → new_names.method a d ≡ new_names.method b d → new_named (a, d) ≡ new_named (b, d)
+  named_same a b d e =
+      let name = sym (method_is a d) ∙ e ∙ method_is b d in
+      let text = descriptor_stays (a, d) ∙ sym (descriptor_stays (b, d)) in
+      λ i. (name i, text i)
+
+  init_same : (a d : List ℕ) → is_same (new_named (a, d)) (codes "<init>", d) ≡ is_same (a, d) (codes "<init>", d)
+      → is_init (new_names.method a d) ≡ is_init a
+  init_same a d h =
+      ap is_init (method_is a d)
+      ∙ sym (ap (λ (b : Bool). is_init (new_named (a, d)).0 && b)
+      (ap (λ (t : List ℕ). is_text t d) (descriptor_stays (a, d)) ∙ text_itself d)
+      ∙ and_true (is_init (new_named (a, d)).0))
+      ∙ h ∙ ap (λ (b : Bool). is_init a && b) (text_itself d) ∙ and_true (is_init a)
 
   -- ---- members that are there are fixed, or have new names
 
   abbrev FieldGiven : List ℕ → Type 0
-  FieldGiven a = fixing.IsGiven (fields_table input output mapping rules taken pair) fixed.field fields_right a
+  FieldGiven a = fixing.IsGiven is_text text_test (fields_table input output mapping rules taken pair) fixed.field
+      fields_right a
 
-  abbrev MethodGiven : List ℕ → Type 0
-  MethodGiven a = fixing.IsGiven (methods_table input output mapping rules taken pair) fixed.method methods_right a
+  abbrev MethodGiven : NameAndType → Type 0
+  MethodGiven n = fixing.IsGiven is_same named_test (methods_table input output mapping rules taken pair) fixed_named
+      methods_right n
 
   field_of_left : (j : ℕ) (d : Class) → slice_get rest j ≡ Some d → (k : ℕ) (x : Field) → slice_get d.fields k ≡ Some x
       → FieldGiven x.name
@@ -346,7 +423,7 @@ module _ (input output : List Class) (mapping : Mapping) (rules : Rules) (taken 
       inr (new.0, field_found input output mapping rules taken pair b.class x new.0 new.1)
 
   method_of_left : (j : ℕ) (d : Class) → slice_get rest j ≡ Some d → (k : ℕ) (x : Method)
-      → slice_get d.methods k ≡ Some x → MethodGiven x.name
+      → slice_get d.methods k ≡ Some x → MethodGiven (x.name, method_text x.ty)
   method_of_left j d at k x there =
       let b = becomes input output mapping rules taken pair j d at in
       let first = class_item input b.n + 1 + length b.class.fields in
@@ -359,15 +436,15 @@ module _ (input output : List Class) (mapping : Mapping) (rules : Rules) (taken 
       ≡ class_item input b.n + 1 + length b.class.fields + o.k = omega arith in
       let new = some_there (new_method mapping b.class x)
       (sym (method_lined mapping input b.n b.class b.there o.k x here) ∙ ap (is_marked marks) item ∙ o.passes) in
-      inr (new.0, method_found input output mapping rules taken pair b.class x new.0 new.1)
+      inr ((new.0, method_text x.ty), method_found input output mapping rules taken pair b.class x new.0 new.1)
 
-  field_given : (a : List ℕ) → IsMemberName rest false a → FieldGiven a
-  field_given a (inr h) = absurd (let w = h.0 in cc)
-  field_given a (inl h) = by h.class h.index h.row h.at h.kind h.name_is
+  field_given : (n : NameAndType) → IsMemberName rest false n → FieldGiven n.0
+  field_given n (inr h) = absurd (let w = h.0 in cc)
+  field_given n (inl h) = by h.class h.index h.row h.at h.kind (ap (λ (n : NameAndType). n.0) h.named_is)
     where
       by : (x : ClassId) (k : ℕ) (row : MemberRow) → slice_get (rows_in rest x) k ≡ Some row → row.is_method ≡ false
-          → row.named.0 ≡ a → FieldGiven a
-      by (Lib id) k row at kind name = inl (field_fixed a
+          → row.named.0 ≡ n.0 → FieldGiven n.0
+      by (Lib id) k row at kind name = inl (field_fixed n.0
           (ap (is_taken (library_names false)) (sym name)
           ∙ ap (λ (b : Bool). is_taken (library_names b) row.named.0) (sym kind) ∙ library_name_taken rest id k row at))
       by (Prog j) k row at kind name =
@@ -378,28 +455,28 @@ module _ (input output : List Class) (mapping : Mapping) (rules : Rules) (taken 
           (λ p. absurd (let w : true ≡ false = sym (ap (λ (r : MemberRow). r.is_method) p.4) ∙ kind in cc))
           (row_parts d.0.fields d.0.methods k row d.2)
 
-  method_given : (a : List ℕ) → IsMemberName rest true a → MethodGiven a
-  method_given a (inr h) = inl (ap fixed.method h.1 ∙ method_fixed (codes "<clinit>") refl)
-  method_given a (inl h) = by h.class h.index h.row h.at h.kind h.name_is
+  method_given : (n : NameAndType) → IsMemberName rest true n → MethodGiven n
+  method_given n (inr h) = inl (ap (fixed.method n.1) h.1 ∙ method_fixed n.1 (codes "<clinit>") refl)
+  method_given n (inl h) = by h.class h.index h.row h.at h.kind h.named_is
     where
       by : (x : ClassId) (k : ℕ) (row : MemberRow) → slice_get (rows_in rest x) k ≡ Some row → row.is_method ≡ true
-          → row.named.0 ≡ a → MethodGiven a
-      by (Lib id) k row at kind name = inl (library_method_fixed a
-          (ap (is_taken (library_names true)) (sym name)
+          → row.named ≡ n → MethodGiven n
+      by (Lib id) k row at kind named = inl (library_method_fixed n.1 n.0
+          (ap (λ (m : NameAndType). is_taken (library_names true) m.0) (sym named)
           ∙ ap (λ (b : Bool). is_taken (library_names b) row.named.0) (sym kind) ∙ library_name_taken rest id k row at))
-      by (Prog j) k row at kind name =
+      by (Prog j) k row at kind named =
           let d = program_row rest k row j at in
           ⊎_elim
           (λ p. absurd (let w : false ≡ true = sym (ap (λ (r : MemberRow). r.is_method) p.2) ∙ kind in cc))
-          (λ p. subst MethodGiven (sym (ap (λ (r : MemberRow). r.named.0) p.4) ∙ name)
+          (λ p. subst MethodGiven (sym (ap (λ (r : MemberRow). r.named) p.4) ∙ named)
           (method_of_left j d.0 d.1 p.0 p.1 p.3))
           (row_parts d.0.fields d.0.methods k row d.2)
 
   -- ---- initialisation methods
 
-  init_of_fields : (a : List ℕ) → IsMemberName rest false a → is_init (new_names.field a) ≡ is_init a
-  init_of_fields a (inr h) = absurd (let w = h.0 in cc)
-  init_of_fields a (inl h) = by h.class h.index h.row h.at h.kind h.name_is
+  init_of_fields : (n : NameAndType) → IsMemberName rest false n → is_init (new_names.field n.0) ≡ is_init n.0
+  init_of_fields n (inr h) = absurd (let w = h.0 in cc)
+  init_of_fields n (inl h) = by h.class h.index h.row h.at h.kind (ap (λ (n : NameAndType). n.0) h.named_is)
     where
       good : (j : ℕ) (d : Class) → slice_get rest j ≡ Some d → (k : ℕ) (x : Field) → slice_get d.fields k ≡ Some x
           → is_init (new_names.field x.name) ≡ is_init x.name
@@ -420,10 +497,11 @@ module _ (input output : List Class) (mapping : Mapping) (rules : Rules) (taken 
           ap is_init (sym y.2.name) ∙ no_init y.0.name new.name.1 ∙ sym (no_init x.name old.name.1)
 
       by : (x : ClassId) (k : ℕ) (row : MemberRow) → slice_get (rows_in rest x) k ≡ Some row → row.is_method ≡ false
-          → row.named.0 ≡ a → is_init (new_names.field a) ≡ is_init a
+          → row.named.0 ≡ n.0 → is_init (new_names.field n.0) ≡ is_init n.0
       by (Lib id) k row at kind name =
-          ap is_init (fixing.fixed_stays (fields_table input output mapping rules taken pair) fixed.field fields_right a
-          (field_fixed a (ap (is_taken (library_names false)) (sym name)
+          ap is_init (fixing.fixed_stays is_text text_test (fields_table input output mapping rules taken pair) fixed.field
+          fields_right n.0
+          (field_fixed n.0 (ap (is_taken (library_names false)) (sym name)
           ∙ ap (λ (b : Bool). is_taken (library_names b) row.named.0) (sym kind)
           ∙ library_name_taken rest id k row at)))
       by (Prog j) k row at kind name =
@@ -538,19 +616,27 @@ module _ (input output : List Class) (mapping : Mapping) (rules : Rules) (taken 
         class_name = class_formed;
         one_class = one_class;
         packages = package_stays;
-        library_field = λ id k row at kind. fixing.fixed_stays fields fixed.field fields_right row.named.0
+        library_field = λ id k row at kind. fixing.fixed_stays is_text text_test fields fixed.field fields_right
+            row.named.0
             (field_fixed row.named.0 (ap (λ (b : Bool). is_taken (library_names b) row.named.0) (sym kind)
             ∙ library_name_taken rest id k row at));
-        library_method = λ id k row at kind. fixing.fixed_stays methods fixed.method methods_right row.named.0
-            (library_method_fixed row.named.0 (ap (λ (b : Bool). is_taken (library_names b) row.named.0) (sym kind)
-            ∙ library_name_taken rest id k row at));
-        one_field = λ a b h k e. fixing.one_name fields fixed.field fields_right a b (field_given a h)
-            (field_given b k) e;
-        one_method = λ a b d h k e. fixing.one_name methods fixed.method methods_right a b (method_given a h)
-            (method_given b k) e;
+        library_method = λ id k row at kind.
+            method_is row.named.0 row.named.1
+            ∙ ap (λ (n : NameAndType). n.0) (fixing.fixed_stays is_same named_test methods fixed_named methods_right
+            row.named (library_method_fixed row.named.1 row.named.0
+            (ap (λ (b : Bool). is_taken (library_names b) row.named.0) (sym kind)
+            ∙ library_name_taken rest id k row at)));
+        one_field = λ a b h k e. fixing.one_name is_text text_test fields fixed.field fields_right a.0 b.0
+            (field_given a h) (field_given b k) e;
+        one_method = λ a b d h k e. ap (λ (n : NameAndType). n.0)
+            (fixing.one_name is_same named_test methods fixed_named methods_right (a, d) (b, d) (method_given (a, d) h)
+            (method_given (b, d) k) (named_same a b d e));
         init_field = init_of_fields;
-        init_method = λ a d h. fixing.test_stays methods fixed.method methods_right (codes "<init>") a
-            (method_fixed (codes "<init>") refl) (method_given a h);
-        clinit = fixing.fixed_stays methods fixed.method methods_right (codes "<clinit>")
-            (method_fixed (codes "<clinit>") refl);
+        init_method = λ a d h. init_same a d
+            (fixing.test_stays is_same named_test methods fixed_named methods_right (codes "<init>", d) (a, d)
+            (method_fixed d (codes "<init>") refl) (method_given (a, d) h));
+        clinit = λ d.
+            method_is (codes "<clinit>") d
+            ∙ ap (λ (n : NameAndType). n.0) (fixing.fixed_stays is_same named_test methods fixed_named methods_right
+            (codes "<clinit>", d) (method_fixed d (codes "<clinit>") refl));
       }

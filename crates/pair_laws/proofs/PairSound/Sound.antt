@@ -41,6 +41,7 @@ module _ (files : List FileAt) (input : List Class) (written : List FileAt) (map
       seeds = pair.none clause.SeedLost;
       closed = pair.none clause.NotClosed;
       members = pair.none clause.MemberDiffers;
+      ranges = pair.none clause.LineRange;
     };
     codes = pair.none clause.CodeDiffers;
   }
@@ -62,7 +63,7 @@ checked_retraced files input written mapping rules witness readable accepted the
 pub checked_runs : CheckedRunsRetrace
 checked_runs files input written mapping rules witness readable accepted then_readable pair entry startable heap plain
     args n t corr =
-    all_told input mapping (taken files input written mapping rules witness readable accepted then_readable pair)
+    all_told input pair.output mapping (taken files input written mapping rules witness readable accepted then_readable pair)
     (view_of pair.output) (pair_names input mapping) entry startable heap plain args n t corr
     (checked_retraced files input written mapping rules witness readable accepted then_readable pair
     (run (view_of input) (start (view_of input) entry heap args) n) t corr)

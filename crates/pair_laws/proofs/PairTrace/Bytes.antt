@@ -73,6 +73,9 @@ undotted (b ∷ bs) h = λ i. by (b == 47) refl i ∷ undotted bs h.1 i
     by true e = sym (eqb-true b 47 e)
     by false e = ap (λ (u : Bool). cond u 47 b) h.0
 
+pub class_undotted : (name : List ℕ) → is_class_name name ≡ true → map (swapped 46 47) (dotted name) ≡ name
+class_undotted name h = undotted name (no_dots name (class_bytes name h))
+
 pub one_dotted : (a b : List ℕ) → is_class_name a ≡ true → is_class_name b ≡ true → dotted a ≡ dotted b → a ≡ b
 one_dotted a b h k e =
     sym (undotted a (no_dots a (class_bytes a h))) ∙ ap (map (swapped 46 47)) e ∙ undotted b (no_dots b

@@ -305,36 +305,40 @@ frames_coded classes taken entry startable heap plain args n =
 
 -- ---- traces
 
-each_told : (input : List Class) (mapping : Names_file) (fs gs : List Frame)
-    → AllZip (IsRetraced input mapping) fs gs → AllByRecursion (λ (f : Frame). IsSome ((view_of input).code f.method)) fs
-    → AllZip (IsTold mapping) fs gs
-each_told input mapping [] [] zip coded = tt
-each_told input mapping [] (g ∷ gs) zip coded = absurd zip
-each_told input mapping (f ∷ fs) [] zip coded = absurd zip
-each_told input mapping (f ∷ fs) (g ∷ gs) zip coded =
-    (zip.0 coded.0, each_told input mapping fs gs zip.1 coded.1)
+each_told : (input output : List Class) (mapping : Names_file) (fs gs : List Frame)
+    → AllZip (IsRetraced input output mapping) fs gs
+    → AllByRecursion (λ (f : Frame). IsSome ((view_of input).code f.method)) fs → AllZip (IsTold output mapping) fs gs
+each_told input output mapping [] [] zip coded = tt
+each_told input output mapping [] (g ∷ gs) zip coded = absurd zip
+each_told input output mapping (f ∷ fs) [] zip coded = absurd zip
+each_told input output mapping (f ∷ fs) (g ∷ gs) zip coded =
+    (zip.0 coded.0, each_told input output mapping fs gs zip.1 coded.1)
 
 -- all frames of a run from an entry have codes, so wherever a state agrees with it, and the lines of frames with codes
 -- are told, all lines are
-pub all_told : (input : List Class) (mapping : Names_file) → IsTaken input → (w : View) (names : Names) (entry : Key)
-    → is_startable input entry ≡ true → (heap : List Object) → ArePlain heap → (args : List Value) (n : ℕ) (t : State)
+pub all_told : (input output : List Class) (mapping : Names_file) → IsTaken input → (w : View) (names : Names)
+    (entry : Key) → is_startable input entry ≡ true → (heap : List Object) → ArePlain heap → (args : List Value) (n : ℕ)
+    (t : State)
     → Corr (view_of input) w names (run (view_of input) (start (view_of input) entry heap args) n) t
-    → AllZip (IsRetraced input mapping) (frames (run (view_of input) (start (view_of input) entry heap args) n)) (frames t)
-    → AllZip (IsTold mapping) (frames (run (view_of input) (start (view_of input) entry heap args) n)) (frames t)
-all_told input mapping taken w names entry startable heap plain args n t corr retraced =
+    → AllZip (IsRetraced input output mapping) (frames (run (view_of input) (start (view_of input) entry heap args) n))
+    (frames t)
+    → AllZip (IsTold output mapping) (frames (run (view_of input) (start (view_of input) entry heap args) n)) (frames t)
+all_told input output mapping taken w names entry startable heap plain args n t corr retraced =
     by (frames_coded input taken entry startable heap plain args n)
   where
     by : (status (run (view_of input) (start (view_of input) entry heap args) n) ≡ WentWrong)
         ⊎ AllByRecursion (λ (f : Frame). IsSome ((view_of input).code f.method))
         (frames (run (view_of input) (start (view_of input) entry heap args) n))
-        → AllZip (IsTold mapping) (frames (run (view_of input) (start (view_of input) entry heap args) n)) (frames t)
+        → AllZip (IsTold output mapping) (frames (run (view_of input) (start (view_of input) entry heap args) n))
+        (frames t)
     by (inl wrong) = absurd (corr.ending.1 wrong)
     by (inr coded) =
-        each_told input mapping (frames (run (view_of input) (start (view_of input) entry heap args) n)) (frames t)
+        each_told input output mapping (frames (run (view_of input) (start (view_of input) entry heap args) n)) (frames t)
         retraced coded
 
 pub runs_retraced : RunsRetrace
 runs_retraced input output mapping rules taken then_taken pair entry startable heap plain args n t corr =
-    all_told input mapping taken (view_of output) (pair_names input mapping) entry startable heap plain args n t corr
+    all_told input output mapping taken (view_of output) (pair_names input mapping) entry startable heap plain args n t
+    corr
     (frames_retraced input output mapping rules taken then_taken pair
     (run (view_of input) (start (view_of input) entry heap args) n) t corr)

@@ -139,7 +139,7 @@ module _ (xs : List Class) where
         → Declared names xs apart row.named
     row_declared x k row at = record {
       method = row.is_method;
-      named = inl (record { class = x; index = k; row = row; at = at; kind = refl; name_is = refl });
+      named = inl (record { class = x; index = k; row = row; at = at; kind = refl; named_is = refl });
       typed = row_typed x k row at;
     }
 

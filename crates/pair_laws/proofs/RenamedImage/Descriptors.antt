@@ -1,6 +1,6 @@
 -- Names and descriptors of members under new names: those of the library stay, and no two become one (JVMS 4.3).
 use Rattle.std.proofs.Common.{◌≡◌, ℕ, zero, suc, Bool, true, false, List, [], ◌∷◌, map, slice_get}
-use Rattle.std.proofs.Common.{Option, Some, None, refl, sym, ap, ◌∙◌}
+use Rattle.std.proofs.Common.{Option, Some, None, refl, sym, ap, subst, ◌∙◌}
 use Rattle.std.specs.Prelude.{IfSome, if◌then◌else◌}
 use Rattle.std.specs.Option.{option_map}
 use Rattle.std.specs.List.{AllByRecursion}
@@ -134,7 +134,7 @@ module _ (names : Names) where
     -- the name of a member, with a descriptor of its kind
     pub record Declared (n : NameAndType) : Type 0 where
       pub method : Bool
-      pub named : IsMemberName xs method n.0
+      pub named : IsMemberName xs method n
       pub typed : IsDescribed (is_known xs) method n.1
 
     kinds_differ : (ty : FieldType) (other : MethodType) → field_text ty ≡ method_text other → ⊥
@@ -142,8 +142,8 @@ module _ (names : Names) where
         let wrong : false ≡ true = sym (field_is_none ty) ∙ ap is_method_text same ∙ method_is_one other in
         cc
 
-    one_of : (t u : Bool) (a b : NameAndType) → IsMemberName xs t a.0 → IsDescribed (is_known xs) t a.1
-        → IsMemberName xs u b.0 → IsDescribed (is_known xs) u b.1
+    one_of : (t u : Bool) (a b : NameAndType) → IsMemberName xs t a → IsDescribed (is_known xs) t a.1
+        → IsMemberName xs u b → IsDescribed (is_known xs) u b.1
         → renamed_named names a ≡ renamed_named names b → a ≡ b
     one_of false false a b named (ty, is, known, spells) then_named (other, then_is, then_known, then_spells) same =
         let both = sym (field_spelled a ty is spells) ∙ same ∙ field_spelled b other then_is then_spells in
@@ -151,7 +151,7 @@ module _ (names : Names) where
         (one_type (renamed_type names ty) (renamed_type names other) (type_spelled names apart.class_name ty is)
         (type_spelled names apart.class_name other then_is) (ap (λ (n : NameAndType). n.1) both)) in
         let text : a.1 ≡ b.1 = sym spells ∙ ap field_text types ∙ then_spells in
-        let name = apart.one_field a.0 b.0 named then_named (ap (λ (n : NameAndType). n.0) both) in
+        let name = apart.one_field a b named then_named (ap (λ (n : NameAndType). n.0) both) in
         λ i. (name i, text i)
     one_of true true a b named (ty, is, known, spells) then_named (other, then_is, then_known, then_spells) same =
         let both = sym (method_spelled a ty is spells) ∙ same ∙ method_spelled b other then_is then_spells in
@@ -160,7 +160,8 @@ module _ (names : Names) where
         (method_type_spelled names apart.class_name ty is) (method_type_spelled names apart.class_name other then_is)
         (ap (λ (n : NameAndType). n.1) both)) in
         let text : a.1 ≡ b.1 = sym spells ∙ ap method_text types ∙ then_spells in
-        let name = apart.one_method a.0 b.0 a.1 named then_named
+        let name = apart.one_method a.0 b.0 a.1 named
+        (subst (λ (d : List ℕ). IsMemberName xs true (b.0, d)) (sym text) then_named)
         (ap (λ (n : NameAndType). n.0) both ∙ ap (names.method b.0) (sym text)) in
         λ i. (name i, text i)
     one_of false true a b named (ty, is, known, spells) then_named (other, then_is, then_known, then_spells) same =

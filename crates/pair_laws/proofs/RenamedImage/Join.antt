@@ -308,10 +308,10 @@ module _ (names : Names) (place : ℕ → ℕ) (xs ys : List Class) (found : Fin
   declared : (m : MemberAt) (row : MemberRow) → row_at xs m ≡ Some row → Declared names xs apart row.named
   declared m row at = row_declared xs names apart known m.class m.index row at
 
-  init_of : (t : Bool) (n : NameAndType) → IsMemberName xs t n.0 → IsDescribed (is_known xs) t n.1
+  init_of : (t : Bool) (n : NameAndType) → IsMemberName xs t n → IsDescribed (is_known xs) t n.1
       → is_init (renamed_named names n).0 ≡ is_init n.0
   init_of false n named (ty, is, known, spells) =
-      ap (λ (n : NameAndType). is_init n.0) (field_spelled names n ty is spells) ∙ apart.init_field n.0 named
+      ap (λ (n : NameAndType). is_init n.0) (field_spelled names n ty is spells) ∙ apart.init_field n named
   init_of true n named (ty, is, known, spells) =
       ap (λ (n : NameAndType). is_init n.0) (method_spelled names n ty is spells) ∙ apart.init_method n.0 n.1 named
 

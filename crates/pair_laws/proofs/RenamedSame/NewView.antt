@@ -152,7 +152,7 @@ module _ (classes : List Class) (rules : KeptByRules) (marks : List Bool) (names
   clinit_stays : new_named names rest clinit ≡ Some clinit
   clinit_stays =
       let spelled = method_spelled names clinit initial initial_is initial_text in
-      let name = new.apart.clinit in
+      let name = new.apart.clinit (codes "()V") in
       let text = initial_text in
       ap Some (spelled ∙ (λ i. (name i, text i)))
 

@@ -3,7 +3,7 @@ use Rattle.std.proofs.Common.{◌≡◌, ℕ, ◌+◌, true, false, List, [], �
 use Rattle.std.proofs.Common.{sym, ap, subst, ◌∙◌, inl}
 use Rattle.std.specs.List.{AllByRecursion}
 use Rattle.std.specs.Option.{option_map_or}
-use Rattle.jv_base.specs.Types.{IsFieldType, IsMethodType, method_text}
+use Rattle.jv_base.specs.Types.{IsFieldType, IsMethodType, field_text, method_text}
 use Rattle.jv_base.proofs.Lists.{all_from}
 use Rattle.class_model.specs.WellFormed.{IsWellFormed}
 use Rattle.class_model.specs.declared.class.Class.{Class}
@@ -34,25 +34,25 @@ module _ (names : Names) (place back : ℕ → ℕ) (xs ys : List Class) (h : Is
       ∙ at
 
   field_named : (n : ℕ) (c : Class) → slice_get xs n ≡ Some c → (k : ℕ) (f : Field) → slice_get c.fields k ≡ Some f
-      → IsMemberName xs false f.name
+      → IsMemberName xs false (f.name, field_text f.ty)
   field_named n c is k f at = inl (record {
     class = Prog n;
     index = k;
     row = field_row f;
     at = row_is n c is k (field_row f) (field_row_there c.fields c.methods k f at);
     kind = refl;
-    name_is = refl;
+    named_is = refl;
   })
 
   method_named : (n : ℕ) (c : Class) → slice_get xs n ≡ Some c → (k : ℕ) (m : Method)
-      → slice_get c.methods k ≡ Some m → IsMemberName xs true m.name
+      → slice_get c.methods k ≡ Some m → IsMemberName xs true (m.name, method_text m.ty)
   method_named n c is k m at = inl (record {
     class = Prog n;
     index = length c.fields + k;
     row = method_row m;
     at = row_is n c is (length c.fields + k) (method_row m) (method_row_there c.fields c.methods k m at);
     kind = refl;
-    name_is = refl;
+    named_is = refl;
   })
 
   -- ---- the members of a class stay apart
@@ -67,10 +67,11 @@ module _ (names : Names) (place back : ℕ → ℕ) (xs ys : List Class) (h : Is
           c.methods (h.known.methods n c is);
     };
     fields = all_from _ c.fields (λ j one at. all_from _ c.fields (λ k other then_at.
-        h.apart.one_field one.name other.name (field_named n c is j one at) (field_named n c is k other then_at)));
+        h.apart.one_field (one.name, field_text one.ty) (other.name, field_text other.ty) (field_named n c is j one at) (field_named n c is k other then_at)));
     methods = all_from _ c.methods (λ j one at. all_from _ c.methods (λ k other then_at text same.
         h.apart.one_method one.name other.name (method_text one.ty) (method_named n c is j one at)
-        (method_named n c is k other then_at) (same ∙ ap (names.method other.name) (sym text))));
+        (subst (λ (d : List ℕ). IsMemberName xs true (other.name, d)) (sym text) (method_named n c is k other then_at))
+        (same ∙ ap (names.method other.name) (sym text))));
   }
 
   pub formed : (j : ℕ) (d : Class) → slice_get ys j ≡ Some d → IsWellFormed d

@@ -1,11 +1,12 @@
 -- What the clauses look at of an input they look at without the codes of its methods. Each lemma is named after the
 -- definition of which it says so, and goes the definition's way.
 use Rattle.std.proofs.Common.{◌≡◌, ℕ, ◌+◌, not, ◌||◌, Bool, true, false, cond, List, [], ◌∷◌, ◌++◌, map, length, Option}
-use Rattle.std.proofs.Common.{refl, ap, ◌∙◌, is_some}
+use Rattle.std.proofs.Common.{Some, None, refl, ap, ◌∙◌, is_some}
 use Rattle.std.specs.Prelude.{slice_index_or}
-use Rattle.std.specs.List.{enumerate_from, filter, flat_map, list_any, zip}
+use Rattle.std.specs.List.{enumerate_from, filter, filter_map, flat_map, list_any, zip}
 use Rattle.std.specs.Option.{option_map_or, option_or}
 use Rattle.jv_base.specs.Names.{is_text}
+use Rattle.jv_base.specs.Types.{method_text}
 use Rattle.class_model.specs.declared.class.Class.{Class}
 use Rattle.class_model.specs.declared.class.Field.{Field}
 use Rattle.class_model.specs.declared.class.Method.{Method}
@@ -14,7 +15,9 @@ use Rattle.lib_table.proofs.Classes.{position_map}
 use Rattle.keep_rules.specs.declared.rules.Rules.{Rules}
 use Rattle.keep_match.specs.Fixed.{fixed_rows}
 use Rattle.keep_match.specs.declared.fixed.Fixes.TheVariants as fixes
+use Rattle.class_rename.specs.Names.{MethodName}
 use Rattle.fresh_names.specs.Fresh.{is_taken}
+use Rattle.fresh_names.specs.Given.{stays_for}
 use Rattle.fresh_names.specs.Reserved.{reserved}
 use Rattle.fresh_names.specs.declared.taken.Named.TheVariants as named
 use Rattle.member_shrink.specs.Shrunk.{chosen, is_marked}
@@ -22,12 +25,14 @@ use Rattle.mapping_file.specs.declared.mapping.MapClass.{MapClass}
 use Rattle.mapping_file.specs.declared.mapping.MapField.{MapField}
 use Rattle.mapping_file.specs.declared.mapping.MapMethod.{MapMethod}
 use Rattle.mapping_file.specs.declared.mapping.Mapping.{Mapping}
-use Rattle.rename_map.specs.Fixed.{class_marked, method_type_classes, names_that_stay, type_classes}
-use Rattle.new_names.specs.NewNames.{field_names, is_same, method_names, names_given, new_method}
+use Rattle.rename_map.specs.Fixed.{class_marked, method_type_classes, named_marked, names_that_stay, type_classes}
+use Rattle.new_names.specs.NewNames.{NameAndType, class_line, field_names, is_same, names_given, new_method}
 use Rattle.new_names.specs.declared.class_names.ClassNames.{ClassNames}
 use Rattle.pair_clauses.specs.Finding.{first_place}
 use Rattle.pair_clauses.specs.FixedNames.{Fixed, fixed_by, fixed_fault, fixed_in, field_fault, method_fault}
 use Rattle.pair_clauses.specs.FixedNames.{is_renamed, moved_in, package_fault}
+use Rattle.pair_clauses.specs.LineRanges.{class_range_fault, range_fault, range_fault_of}
+use Rattle.pair_clauses.specs.Members.{new_one, with_name}
 use Rattle.pair_clauses.specs.Places.{class_place, field_place, item_places, method_place, place_if, place_of_field}
 use Rattle.pair_clauses.specs.Places.{place_of_method, places_in}
 use Rattle.pair_clauses.specs.Shape as shape
@@ -63,15 +68,16 @@ module _ (s : List Class) where
   fields_at class before own [] = refl
   fields_at class before own (l ∷ ls) = λ i. option_or
       (place_if (is_stray_is i class (map shape.field_named own) (shape.field_named l)
-      || shape.clashes (before ++ field_names own) l.old l.new) (field_place class l.ty l.old))
+      || shape.clashes is_text (before ++ field_names own) l.old l.new) (field_place class l.ty l.old))
       (fields_at class before (own ++ l ∷ []) ls i)
 
-  methods_at : (class : List ℕ) (before : List (List ℕ × List ℕ)) (own ls : List MapMethod)
+  methods_at : (class : List ℕ) (before : List (NameAndType × NameAndType)) (own ls : List MapMethod)
       → shape.methods_fault t class before own ls ≡ shape.methods_fault s class before own ls
   methods_at class before own [] = refl
   methods_at class before own (l ∷ ls) = λ i. option_or
       (place_if (is_stray_is i class (map shape.method_named own) (shape.method_named l)
-      || shape.clashes (before ++ method_names own) l.old l.new) (method_place class l.ty l.old))
+      || shape.clashes is_same (before ++ shape.method_pairs own) (shape.method_named l) (shape.method_renamed l))
+      (method_place class l.ty l.old))
       (methods_at class before (own ++ l ∷ []) ls i)
 
   lines_at : (output : List Class) (before ls : List MapClass)
@@ -83,7 +89,7 @@ module _ (s : List Class) where
       || (not (shape.has_class output l.new) || list_any (λ (b : MapClass). is_text b.new l.new) before))
       (class_place l.old))
       (option_or (fields_at l.old (flat_map (λ (b : MapClass). field_names b.fields) before) [] l.fields i)
-      (methods_at l.old (flat_map (λ (b : MapClass). method_names b.methods) before) [] l.methods i)))
+      (methods_at l.old (flat_map (λ (b : MapClass). shape.method_pairs b.methods) before) [] l.methods i)))
       (lines_at output (before ++ l ∷ []) ls i)
 
   shape_fault_is : (output : List Class) (mapping : Mapping)
@@ -149,9 +155,9 @@ module _ (tells : Method → List (List ℕ)) (same_told : (m : Method) → tell
       by false h = h
 
 -- what classes tell by their marks
-module _ (tells : List Bool → Class → List (List ℕ))
+module _ {X : Type 0} (tells : List Bool → Class → List X)
     (same_told : (marks : List Bool) (c : Class) → tells marks (bare c) ≡ tells marks c) where
-  abbrev each_of : List (List Bool) → ℕ → List Class → List (List ℕ)
+  abbrev each_of : List (List Bool) → ℕ → List Class → List X
   each_of rows n s = flat_map (λ (e : ℕ × Class). tells (slice_index_or rows e.0 []) e.1) (enumerate_from n s)
 
   each_from : (rows : List (List Bool)) (n : ℕ) (s : List Class) → each_of rows n (map bare s) ≡ each_of rows n s
@@ -162,9 +168,6 @@ module _ (tells : List Bool → Class → List (List ℕ))
       → each_of others 0 b ≡ each_of rows 0 a
   each_same a b like rows others is =
       ap (λ (r : List (List Bool)). each_of r 0 b) is ∙ same a b like (each_of rows 0) (each_from rows 0)
-
-abbrev tells_name : Method → List (List ℕ)
-tells_name m = m.name ∷ []
 
 abbrev tells_types : Method → List (List ℕ)
 tells_types m = method_type_classes m.ty
@@ -182,11 +185,27 @@ described_is marks c =
 abbrev field_names_marked : List Bool → Class → List (List ℕ)
 field_names_marked marks c = flat_map (λ (f : Field). f.name ∷ []) (chosen marks 1 c.fields)
 
-abbrev method_names_marked : List Bool → Class → List (List ℕ)
-method_names_marked marks c = flat_map tells_name (chosen marks (1 + length c.fields) c.methods)
+-- the names and descriptors of methods that are chosen
+abbrev named_of : List Bool → ℕ → List Method → List MethodName
+named_of marks k ms = map (λ (m : Method). (m.name, method_text m.ty)) (chosen marks k ms)
 
-method_names_is : (marks : List Bool) (c : Class) → method_names_marked marks (bare c) ≡ method_names_marked marks c
-method_names_is marks c = chosen_tell tells_name (λ m. refl) marks (1 + length c.fields) c.methods
+named_at : (marks : List Bool) (k : ℕ) (ms : List Method) → named_of marks k (map bare_method ms) ≡ named_of marks k ms
+named_at marks k [] = refl
+named_at marks k (m ∷ ms) = by (is_marked marks k) (named_at marks (k + 1) ms)
+  where
+    by : (b : Bool) → named_of marks (k + 1) (map bare_method ms) ≡ named_of marks (k + 1) ms
+        → map {B = MethodName} (λ (m : Method). (m.name, method_text m.ty)) (map (λ (e : ℕ × Method). e.1)
+        (cond b ((k, bare_method m) ∷ filter (λ (e : ℕ × Method). is_marked marks e.0)
+        (enumerate_from (k + 1) (map bare_method ms)))
+        (filter (λ (e : ℕ × Method). is_marked marks e.0) (enumerate_from (k + 1) (map bare_method ms)))))
+        ≡ map {B = MethodName} (λ (m : Method). (m.name, method_text m.ty)) (map (λ (e : ℕ × Method). e.1)
+        (cond b ((k, m) ∷ filter (λ (e : ℕ × Method). is_marked marks e.0) (enumerate_from (k + 1) ms))
+        (filter (λ (e : ℕ × Method). is_marked marks e.0) (enumerate_from (k + 1) ms))))
+    by true h = ap (λ (t : List MethodName). (m.name, method_text m.ty) ∷ t) h
+    by false h = h
+
+named_is : (marks : List Bool) (c : Class) → named_marked marks (bare c) ≡ named_marked marks c
+named_is marks c = named_at marks (1 + length c.fields) c.methods
 
 -- ---- sets that differ in codes alone
 
@@ -211,19 +230,20 @@ module _ (a b : List Class) (like : DifferInCodes a b) where
       (fixed_rows fixes.DescriptorClasses rules b) (m.fixed fixes.DescriptorClasses) in
       let fields = each_same field_names_marked (λ marks c. refl) a b like (fixed_rows fixes.Members rules a)
       (fixed_rows fixes.Members rules b) (m.fixed fixes.Members) in
-      let methods = each_same method_names_marked method_names_is a b like (fixed_rows fixes.Members rules a)
+      let methods = each_same named_marked named_is a b like (fixed_rows fixes.Members rules a)
       (fixed_rows fixes.Members rules b) (m.fixed fixes.Members) in
       λ i. record {
         classes = classes i ++ (types i ++ reserved named.Class);
         fields = fields i ++ reserved named.Field;
-        methods = methods i ++ reserved named.Method;
+        methods = methods i;
       }
 
   fixed_by_same : (rules : Rules) → fixed_by rules b ≡ fixed_by rules a
   fixed_by_same rules = λ i. record {
     class = λ name. not rules.obfuscate || is_taken (stay_same rules i).classes name;
     field = λ name. not rules.obfuscate || is_taken (stay_same rules i).fields name;
-    method = λ name. not rules.obfuscate || is_taken (stay_same rules i).methods name;
+    method = λ descriptor name. not rules.obfuscate
+        || is_taken (stays_for (stay_same rules i).methods descriptor) name;
   }
 
 -- ---- the clauses on names
@@ -253,7 +273,40 @@ package_fault_is given [] = refl
 package_fault_is [] (c ∷ s) = refl
 package_fault_is (g ∷ given) (c ∷ s) = ap (option_or (moved_in (c, g))) (package_fault_is given s)
 
+-- ---- the ranges of lines
+
+methods_ranged : (line : MapClass) (c : Class) (ms : List Method) (given : List (Option (List ℕ))) (outs : List Method)
+    → first_place (range_fault_of line (bare c)) (zip (filter_map with_name (zip (map bare_method ms) given)) outs)
+    ≡ first_place (range_fault_of line c) (zip (filter_map with_name (zip ms given)) outs)
+methods_ranged line c [] given outs = refl
+methods_ranged line c (m ∷ ms) [] outs = refl
+methods_ranged line c (m ∷ ms) (None ∷ given) outs = methods_ranged line c ms given outs
+methods_ranged line c (m ∷ ms) (Some name ∷ given) [] = refl
+methods_ranged line c (m ∷ ms) (Some name ∷ given) (out ∷ outs) =
+    ap (option_or (range_fault_of line c ((m, name), out))) (methods_ranged line c ms given outs)
+
+class_ranged : (line : Option MapClass) (c : Class) (given : ClassNames) (out : Option Class)
+    → class_range_fault line (bare c) given out ≡ class_range_fault line c given out
+class_ranged None c given out = refl
+class_ranged (Some line) c given None = refl
+class_ranged (Some line) c given (Some out) = methods_ranged line c c.methods given.methods out.methods
+
+range_fault_is : (mapping : Mapping) (output : List Class) (s : List Class)
+    → range_fault mapping (map bare s) (given_names mapping (map bare s)) output
+    ≡ range_fault mapping s (given_names mapping s) output
+range_fault_is mapping output [] = refl
+range_fault_is mapping output (c ∷ s) = λ i. option_or
+    ((ap (λ (g : ClassNames). class_range_fault (class_line mapping c.name) (bare c) g (new_one output g))
+    (class_given mapping c)
+    ∙ class_ranged (class_line mapping c.name) c (names_given mapping c) (new_one output (names_given mapping c))) i)
+    (range_fault_is mapping output s i)
+
 module _ (a b : List Class) (like : DifferInCodes a b) (mapping : Mapping) where
+  pub range_same : (output : List Class)
+      → range_fault mapping b (given_names mapping b) output ≡ range_fault mapping a (given_names mapping a) output
+  range_same output = same a b like (λ s. range_fault mapping s (given_names mapping s) output)
+      (range_fault_is mapping output)
+
   pub fixed_same : (rules : Rules)
       → fixed_fault (fixed_by rules b) b (given_names mapping b) ≡ fixed_fault (fixed_by rules a) a (given_names mapping a)
   fixed_same rules =

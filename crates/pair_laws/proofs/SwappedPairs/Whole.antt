@@ -19,7 +19,7 @@ use Rattle.pair_laws.specs.PairSame.Pairs.{IsPair}
 use Rattle.pair_laws.specs.SwappedPairs.Laws.{IsPairButCodes, SwapKeepsPairs}
 use Rattle.pair_laws.proofs.OwnLines.Closing.{no_item_lacks, no_seed_lost}
 use Rattle.pair_laws.proofs.PairSame.ClosedLines.{closed_lines}
-use Rattle.pair_laws.proofs.SwappedPairs.Clauses.{fixed_same, given_same, package_same, shape_same}
+use Rattle.pair_laws.proofs.SwappedPairs.Clauses.{fixed_same, given_same, package_same, range_same, shape_same}
 use Rattle.pair_laws.proofs.SwappedPairs.Members.{have_too, members_again}
 use Rattle.pair_laws.proofs.SwappedPairs.Names.{kept_same}
 
@@ -52,6 +52,7 @@ module _ (input other output : List Class) (mapping : Mapping) (rules : Rules) (
         (λ n c e at there. have_too c.methods e.methods (swapped.codes n c e at there)) given pair.members);
     codes = subst (λ (g : List ClassNames). CodeDiffers mapping (filter_of rules) other g output None) (sym given_is)
         codes;
+    ranges = pair.ranges ∙ sym (range_same input other swapped.alike mapping output);
   }
 
 pub swap_keeps_pairs : SwapKeepsPairs

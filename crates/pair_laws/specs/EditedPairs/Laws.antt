@@ -37,7 +37,7 @@ pub record EditedDoTheSame (input output : List Class) (mapping : Mapping) (rule
   pub same : (entries : List Key) → AreEntries input rules entries
       → Same (view_of input) (view_of output) (pair_names input mapping) entries
   pub retraced : (s t : State) → Corr (view_of input) (view_of output) (pair_names input mapping) s t
-      → AllZip (IsRetraced input mapping) (frames s) (frames t)
+      → AllZip (IsRetraced input output mapping) (frames s) (frames t)
 
 abbrev pub EditedPairsDoTheSame : Type 0
 EditedPairsDoTheSame = (input edited output : List Class) (mapping : Mapping) (rules : Rules) → IsTaken input

@@ -1,6 +1,6 @@
 -- What is written of a set is found again and is a pair with it, as statements on all files, sets, marks and rules (the
 -- project's own).
-use Rattle.std.specs.Prelude.{◌≡◌, ℕ, Bool, false, List, [], ◌++◌, Ok}
+use Rattle.std.specs.Prelude.{◌≡◌, ℕ, Bool, false, List, [], ◌++◌, Option, Ok}
 use Rattle.std.specs.FinMap.{keys}
 use Rattle.std.specs.List.{AllByRecursion}
 use Rattle.tree_io.specs.Below.{paths_below}
@@ -11,6 +11,7 @@ use Rattle.class_files.specs.Output.{put_all}
 use Rattle.class_model.specs.declared.class.Class.{Class}
 use Rattle.keep_rules.specs.Paths.{meets_config, paths_meet}
 use Rattle.keep_rules.specs.declared.rules.Rules.{Rules}
+use Rattle.mapping_file.specs.declared.mapping.Mapping.{Mapping}
 use Rattle.pass_driver.specs.declared.optimising.Optimised.{Optimised}
 use Rattle.set_shrink.specs.Texts.{texts_due}
 use Rattle.set_shrink.specs.declared.shrunk.ShrunkSet.{ShrunkSet}
@@ -28,8 +29,8 @@ ElsewhereChangesNothing = (old : Files) (directory : List ℕ) (others : List Fi
 -- the config, where no paths meet, nor any the config
 abbrev pub OwnFilesAreFoundAgain : Type 0
 OwnFilesAreFoundAgain = (files : List FileAt) (classes : List Class) (marks : List Bool) (rules : Rules)
-    (o : Optimised) (set : ShrunkSet) (written : List FileAt) → AreWritten files classes marks rules o set written
-    → (old : Files) (config witness : List ℕ) (texts : List FileAt) → paths_below rules.out_dir (keys old) ≡ []
+    (old : Option Mapping) (o : Optimised) (set : ShrunkSet) (written : List FileAt)
+    → AreWritten files classes marks rules old o set written → (there : Files) (config witness : List ℕ) (texts : List FileAt) → paths_below rules.out_dir (keys there) ≡ []
     → paths_meet rules witness ≡ false → meets_config config rules witness ≡ false
     → texts_due set.mapping o.witness classes marks rules witness ≡ Ok texts
-    → IsFoundAgain old (put_all old (set.files ++ texts)) config witness rules set.mapping o.witness written
+    → IsFoundAgain there (put_all there (set.files ++ texts)) config witness rules set.mapping o.witness written

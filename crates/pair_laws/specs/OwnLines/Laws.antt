@@ -20,6 +20,7 @@ use Rattle.new_names.specs.NewNames.{names_of, new_class, new_field, new_method}
 use Rattle.pair_clauses.specs.Closing.{closed_fault, lined_items, seed_fault}
 use Rattle.pair_clauses.specs.Codes.{CodeDiffers}
 use Rattle.pair_clauses.specs.FixedNames.{fixed_by, fixed_fault, package_fault}
+use Rattle.pair_clauses.specs.LineRanges.{range_fault}
 use Rattle.pair_clauses.specs.Members.{MemberDiffers}
 use Rattle.pair_checker.specs.Clauses.{given_names}
 use Rattle.pair_laws.specs.OwnNames.Laws.{own_mapping}
@@ -53,8 +54,9 @@ pub record IsToldByMarks (names : Names) (classes : List Class) (marks : List Bo
 
 -- so does the mapping of what is marked
 abbrev pub LinesAreToldByMarks : Type 0
-LinesAreToldByMarks = (classes : List Class) (marks : List Bool) (rules : Rules) → IsMarkedSet classes marks rules
-    → IsToldByMarks (new_names classes marks rules) classes marks (own_mapping classes marks rules)
+LinesAreToldByMarks = (classes : List Class) (marks : List Bool) (rules : Rules) (old : Option Mapping)
+    → IsMarkedSet classes marks rules
+    → IsToldByMarks (new_names classes marks rules old) classes marks (own_mapping classes marks rules old)
 
 -- ---- clauses
 
@@ -66,9 +68,11 @@ pub record IsPairButShape (input output : List Class) (mapping : Mapping) (rules
   pub closed : None ≡ closed_fault input (given_names mapping input) (required input rules)
   pub members : MemberDiffers mapping (filter_of rules) input (given_names mapping input) output None
   pub codes : CodeDiffers mapping (filter_of rules) input (given_names mapping input) output None
+  pub ranges : None ≡ range_fault mapping input (given_names mapping input) output
 
 -- a set and what is written of it are so, where the mapping gives the names by which that was renamed
 abbrev pub OwnLines : Type 0
-OwnLines = (classes : List Class) (marks : List Bool) (rules : Rules) → IsMarkedSet classes marks rules
-    → names_of (own_mapping classes marks rules) ≡ new_names classes marks rules
-    → IsPairButShape classes (left_of classes marks rules) (own_mapping classes marks rules) rules
+OwnLines = (classes : List Class) (marks : List Bool) (rules : Rules) (old : Option Mapping)
+    → IsMarkedSet classes marks rules
+    → names_of (own_mapping classes marks rules old) ≡ new_names classes marks rules old
+    → IsPairButShape classes (left_of classes marks rules old) (own_mapping classes marks rules old) rules

@@ -54,7 +54,7 @@ CheckedFramesRetrace = (files : List FileAt) (input : List Class) (written : Lis
     (rules : Rules) (witness : Witness) → AreReadable files → IsAccepted files input → AreReadable written
     → (pair : PairOk input written mapping rules witness) → (s t : State)
     → Corr (view_of input) (view_of pair.output) (pair_names input mapping) s t
-    → AllZip (IsRetraced input mapping) (frames s) (frames t)
+    → AllZip (IsRetraced input pair.output mapping) (frames s) (frames t)
 
 -- a frame of a run from an entry has a code, so of such a run each line is told
 abbrev pub CheckedRunsRetrace : Type 0
@@ -64,4 +64,4 @@ CheckedRunsRetrace = (files : List FileAt) (input : List Class) (written : List 
     → (heap : List Object) → ArePlain heap → (args : List Value) (n : ℕ) (t : State)
     → Corr (view_of input) (view_of pair.output) (pair_names input mapping)
     (run (view_of input) (start (view_of input) entry heap args) n) t
-    → AllZip (IsTold mapping) (frames (run (view_of input) (start (view_of input) entry heap args) n)) (frames t)
+    → AllZip (IsTold pair.output mapping) (frames (run (view_of input) (start (view_of input) entry heap args) n)) (frames t)

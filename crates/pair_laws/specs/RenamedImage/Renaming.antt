@@ -31,19 +31,20 @@ is_library_name name = starts_with nat_eq name (codes "java/")
 abbrev pub is_known : List Class → List ℕ → Bool
 is_known classes name = is_library_name name || is_some (class_named classes name)
 
--- a class declares a method, or with false a field, of this name (JVMS 4.5, 4.6)
-pub record IsNamedBy (classes : List Class) (method : Bool) (name : List ℕ) : Type 0 where
+-- a class declares a method, or with false a field, of this name and descriptor (JVMS 4.5, 4.6)
+pub record IsNamedBy (classes : List Class) (method : Bool) (named : NameAndType) : Type 0 where
   pub class : ClassId
   pub index : ℕ
   pub row : MemberRow
   pub at : slice_get (rows_in classes class) index ≡ Some row
   pub kind : row.is_method ≡ method
-  pub name_is : row.named.0 ≡ name
+  pub named_is : row.named ≡ named
 
--- the name of a method, or with false of a field, of some class; so is that of class initialisation methods (JVMS 2.9)
-abbrev pub IsMemberName : List Class → Bool → List ℕ → Type 0
-IsMemberName classes method name =
-    IsNamedBy classes method name ⊎ ((method ≡ true) × (name ≡ codes "<clinit>"))
+-- the name and descriptor of a method, or with false of a field, of some class; so are those of class initialisation
+-- methods, by their name (JVMS 2.9)
+abbrev pub IsMemberName : List Class → Bool → NameAndType → Type 0
+IsMemberName classes method named =
+    IsNamedBy classes method named ⊎ ((method ≡ true) × (named.0 ≡ codes "<clinit>"))
 
 -- each class is found by its name, and a name in the library's packages leads to the library (JVMS 5.3.5; that the set
 -- has none of these is the project's own)
@@ -78,15 +79,15 @@ pub record KeepsNamesApart (names : Names) (classes : List Class) : Type 0 where
       → row.is_method ≡ false → names.field row.named.0 ≡ row.named.0
   pub library_method : (id k : ℕ) (row : MemberRow) → slice_get (rows_in classes (Lib id)) k ≡ Some row
       → row.is_method ≡ true → names.method row.named.0 row.named.1 ≡ row.named.0
-  pub one_field : (a b : List ℕ) → IsMemberName classes false a → IsMemberName classes false b
-      → names.field a ≡ names.field b → a ≡ b
-  -- of one descriptor
-  pub one_method : (a b descriptor : List ℕ) → IsMemberName classes true a → IsMemberName classes true b
-      → names.method a descriptor ≡ names.method b descriptor → a ≡ b
-  pub init_field : (a : List ℕ) → IsMemberName classes false a → is_init (names.field a) ≡ is_init a
-  pub init_method : (a descriptor : List ℕ) → IsMemberName classes true a
+  pub one_field : (a b : NameAndType) → IsMemberName classes false a → IsMemberName classes false b
+      → names.field a.0 ≡ names.field b.0 → a.0 ≡ b.0
+  -- of one descriptor: methods of two descriptors may get one name
+  pub one_method : (a b descriptor : List ℕ) → IsMemberName classes true (a, descriptor)
+      → IsMemberName classes true (b, descriptor) → names.method a descriptor ≡ names.method b descriptor → a ≡ b
+  pub init_field : (a : NameAndType) → IsMemberName classes false a → is_init (names.field a.0) ≡ is_init a.0
+  pub init_method : (a descriptor : List ℕ) → IsMemberName classes true (a, descriptor)
       → is_init (names.method a descriptor) ≡ is_init a
-  pub clinit : names.method (codes "<clinit>") (codes "()V") ≡ codes "<clinit>"
+  pub clinit : (descriptor : List ℕ) → names.method (codes "<clinit>") descriptor ≡ codes "<clinit>"
 
 -- ---- classes under new names
 

@@ -9,6 +9,7 @@ use Rattle.mapping_file.specs.declared.mapping.Mapping.{Mapping}
 use Rattle.pair_clauses.specs.Closing.{closed_fault, seed_fault}
 use Rattle.pair_clauses.specs.Codes.{CodeDiffers}
 use Rattle.pair_clauses.specs.FixedNames.{fixed_by, fixed_fault, package_fault}
+use Rattle.pair_clauses.specs.LineRanges.{range_fault}
 use Rattle.pair_clauses.specs.Members.{MemberDiffers}
 use Rattle.pair_clauses.specs.Shape.{shape_fault}
 use Rattle.pair_checker.specs.Clauses.{given_names}
@@ -23,6 +24,7 @@ pub record IsPairButCodes (input output : List Class) (mapping : Mapping) (rules
   pub seeds : None ≡ seed_fault input (given_names mapping input) (required input rules)
   pub closed : None ≡ closed_fault input (given_names mapping input) (required input rules)
   pub members : MemberDiffers mapping (filter_of rules) input (given_names mapping input) output None
+  pub ranges : None ≡ range_fault mapping input (given_names mapping input) output
 
 -- so they are a pair with other codes
 abbrev pub SwapKeepsPairs : Type 0

@@ -1,9 +1,10 @@
 use Rattle.std.proofs.Common.{rules, Ok, Err, ℕ, refl, length, sym, ap, arith, subst, ◌∙◌}
 use Rattle.std.proofs.lemmas.List.{nil_from_length}
 use Rattle.std.proofs.lemmas.Result.{err_from_is_err_and}
+use Rattle.std.specs.List.{AllByRecursion}
 use Rattle.std.specs.Vec.Iter.{into_iter_items}
 use Rattle.tree_io.specs.Files.{Files}
-use Rattle.batch_command.specs.Jobs.{IsInput}
+use Rattle.batch_command.specs.Jobs.{IsInput, IsNamed}
 use Rattle.batch_command.specs.bodies.Steps.{HasRoom}
 use Rattle.batch_command.proofs.Each.{Inputs, bytes_more, caught_is, caught_taken, each_begins, each_halts, each_lacks}
 use Rattle.batch_command.proofs.Each.{each_more, inputs_end, inputs_stop, taken_more}
@@ -13,9 +14,14 @@ pub loop-config-init : goal.loop-config-init
 loop-config-init g c = record {
   room = rw c.new-inputs.ensures refl;
   taken = rw c.new-inputs.ensures tt;
+  names = search rules;
   found = each_begins (λ (fs : Files). IsInput g.W.Work.parts fs) c.args.configs _ _ _ c.new-inputs.ensures (search rules);
   lasts = search rules;
 }
+
+pub find_input-requires-clause-names : goal.find_input-requires-clause-names
+find_input-requires-clause-names g c =
+    (subst (AllByRecursion IsNamed) c.in-Some.ensures.steps.0 c.loop-config.invariant.names).0
 
 pub bytes_of-requires : goal.bytes_of-requires
 bytes_of-requires g c =
@@ -31,6 +37,7 @@ loop-config-preserved g c =
           (omega (arith, inv.room, c.in_ok-room.ensures, c.bytes_of.ensures, bytes_more c.loop-config.inputs input));
       taken = rw c.in_ok-put.ensures (taken_more c.loop-config.inputs input inv.taken
           (caught_taken c.find_input.result input c.in_ok-input.ensures c.find_input.ensures.taken));
+      names = (subst (AllByRecursion IsNamed) c.in-Some.ensures.steps.0 inv.names).1;
       found = rw c.in_ok-put.ensures (each_more (λ (fs : Files). IsInput parts fs) c.args.configs _ _ c.in-Some.config
           c.loop-config.inputs input _ _ _ c.in-Some.ensures.steps.0 inv.found
           (caught_is (λ (fs : Files). IsInput parts fs c.in-Some.config) c.find_input.result (Ok input) _ _

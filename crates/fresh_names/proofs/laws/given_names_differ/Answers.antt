@@ -1,12 +1,14 @@
-use Rattle.fresh_names.specs.Given.{front_of, no_front}
-use Rattle.fresh_names.proofs.Tables.{classes_differ, fronts_stay, members_differ, taken_stay}
+use Rattle.fresh_names.proofs.Tables.{classes_differ, classes_stay, fields_differ, fields_stay, methods_differ}
+use Rattle.fresh_names.proofs.Tables.{methods_stay, packages_stay}
 use Rattle.fresh_names.proofs.laws.given_names_differ.Goals as goal
 
 pub returns : goal.returns
 returns c = record {
-  members = members_differ;
   classes = classes_differ;
-  packages = fronts_stay;
-  classes_stay = taken_stay front_of;
-  members_stay = taken_stay no_front;
+  fields = fields_differ;
+  methods = methods_differ;
+  packages = packages_stay;
+  classes_stay = classes_stay;
+  fields_stay = fields_stay;
+  methods_stay = methods_stay;
 }

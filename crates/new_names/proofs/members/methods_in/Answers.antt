@@ -1,25 +1,11 @@
-use Rattle.std.proofs.Common.{◌≡◌, ◌∙◌, ℕ, List, Option, Some, cond, drop, ap, subst, arith}
-use Rattle.jv_base.specs.Types as descriptor
-use Rattle.mapping_file.specs.declared.mapping.MapMethod.{MapMethod}
-use Rattle.new_names.specs.NewNames.{method_lines, is_same}
+use Rattle.std.proofs.Common.{ℕ, List, [], sym, subst, refl}
+use Rattle.std.proofs.lemmas.List.{append-nil}
+use Rattle.new_names.specs.NewNames.{NameAndType, method_lines}
 use Rattle.new_names.specs.bodies.Tables.{TellsMembers}
-use Rattle.new_names.proofs.Telling.{put_before}
 use Rattle.new_names.proofs.members.methods_in.Goals as goal
-
-pub loop-left-preserved : goal.loop-left-preserved
-loop-left-preserved c =
-    let x : MapMethod = c.index-lines-left.result in
-    record {
-      within = omega (arith, c.loop-left.invariant.within);
-      told = λ key. put_before (λ old. is_same old key) method_lines c.args.lines.now c.loop-left.left x _
-          c.loop-left-test.true c.loop-left.invariant.within c.index-lines-left.is
-          (c.in_ok-put_method.ensures key
-          ∙ ap (λ (o : Option (List ℕ)). cond (is_same (x.old, descriptor.method_text x.ty) key) (Some x.new) o)
-          (c.loop-left.invariant.told key));
-    }
 
 pub returns : goal.returns
 returns c =
-    let zero : c.loop-left.left ≡ 0 = omega arith in
-    subst (λ (n : ℕ). TellsMembers c.loop-left.table (method_lines (drop n c.args.lines.now))) zero
-    c.loop-left.invariant.told
+    subst (TellsMembers c.put_methods.new.table) (append-nil (method_lines c.args.lines.now))
+    (c.in_ok-put_methods.ensures []
+    (subst (λ (t : List (NameAndType × List ℕ)). TellsMembers t []) (sym c.new-table.ensures) (λ key. refl)))

@@ -1,12 +1,12 @@
 use Rattle.std.proofs.Common.{◌≤◌, drop, length}
 use Rattle.new_names.specs.NewNames.{all_method_names}
-use Rattle.new_names.specs.bodies.Tables.{TellsNames}
+use Rattle.new_names.specs.bodies.Tables.{TellsMembers}
 use Rattle.new_names.proofs.tables.methods_of.Given as goal
 
 abbrev pub invariant-loop-left : goal.invariant-loop-left
 invariant-loop-left l = record {
   within : l.left ≤ length l.lines;
-  told : TellsNames l.table (all_method_names (drop l.left l.lines));
+  told : TellsMembers l.table (all_method_names (drop l.left l.lines));
 }
 
 abbrev pub decreases-loop-left : goal.decreases-loop-left

@@ -1,4 +1,5 @@
 use Rattle.pair_rows.proofs.Answered as answered
+use Rattle.pair_rows.proofs.Lines as lines
 use Rattle.pair_rows.proofs.Required as required
 use Rattle.pair_rows.proofs.Sets as sets
 use Rattle.pair_rows.proofs.laws.computed_pairs.Goals as goal
@@ -47,3 +48,6 @@ returns-clause-edit_illegal c = answered.edit_illegal
 
 pub returns-clause-code_differs : goal.returns-clause-code_differs
 returns-clause-code_differs c = answered.code_differs
+
+pub returns-clause-line_range : goal.returns-clause-line_range
+returns-clause-line_range c = lines.line_range

@@ -1,6 +1,7 @@
 use Rattle.std.proofs.Common.{◌∙◌, ap, flat_map, subst, arith}
 use Rattle.std.proofs.lemmas.List.{take_all}
 use Rattle.member_shrink.specs.Shrunk.{chosen, is_marked}
+use Rattle.jv_base.specs.Names.{is_text}
 use Rattle.rename_map.specs.bodies.Adding.{Adds}
 use Rattle.rename_map.proofs.Added.{adds_none, chosen_adds}
 use Rattle.rename_map.proofs.gathering.add_chosen.Goals as goal
@@ -21,7 +22,7 @@ loop-member-preserved g c = (
 
 pub returns : goal.returns
 returns g c =
-    subst (λ l. Adds c.args.names.now
+    subst (λ l. Adds is_text c.args.names.now
     (flat_map (g.T.Tells.tells c.args.told) (chosen c.args.row.now c.args.first l))
     c.loop-member.names)
     (take_all c.loop-member.member-index c.args.members.now c.loop-member-test.false) c.loop-member.invariant.1

@@ -3,6 +3,7 @@ use Rattle.std.specs.Prelude.{slice_index_or}
 use Rattle.std.proofs.lemmas.List.{take_all}
 use Rattle.class_model.specs.declared.class.Class.{Class}
 use Rattle.rename_map.specs.Fixed.{marked, of_each}
+use Rattle.jv_base.specs.Names.{is_text}
 use Rattle.rename_map.specs.bodies.Adding.{Adds}
 use Rattle.rename_map.proofs.Added.{adds_none, numbered_adds}
 use Rattle.rename_map.proofs.gathering.gather.Goals as goal
@@ -21,7 +22,7 @@ loop-number-preserved c =
 
 pub returns : goal.returns
 returns c =
-    subst (λ (l : List Class). Adds c.args.names.now (of_each c.args.what c.args.rows.now l)
+    subst (λ (l : List Class). Adds is_text c.args.names.now (of_each c.args.what c.args.rows.now l)
     c.loop-number.names)
     (take_all c.loop-number.number c.args.input.now (omega (arith, c.loop-number-test.false, c.len-number-end.ensures)))
     c.loop-number.invariant

@@ -2,6 +2,7 @@ use Rattle.std.proofs.Common.{List, flat_map, subst}
 use Rattle.std.proofs.lemmas.List.{take_all}
 use Rattle.jv_base.specs.declared.types.FieldType.{FieldType}
 use Rattle.rename_map.specs.Fixed.{type_classes}
+use Rattle.jv_base.specs.Names.{is_text}
 use Rattle.rename_map.specs.bodies.Adding.{Adds}
 use Rattle.rename_map.proofs.Added.{adds_none, more_adds}
 use Rattle.rename_map.proofs.telling.add_arguments.Goals as goal
@@ -17,5 +18,5 @@ loop-ty-preserved c =
 
 pub returns : goal.returns
 returns c =
-    subst (λ (l : List FieldType). Adds c.args.names.now (flat_map type_classes l) c.loop-ty.names)
+    subst (λ (l : List FieldType). Adds is_text c.args.names.now (flat_map type_classes l) c.loop-ty.names)
     (take_all c.loop-ty.ty-index c.args.types.now c.loop-ty-test.false) c.loop-ty.invariant

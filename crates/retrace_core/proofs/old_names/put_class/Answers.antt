@@ -1,7 +1,8 @@
 use Rattle.std.proofs.Common.{List, ℕ, sym, ap, ◌∙◌}
 use Rattle.std.specs.Option.{is_some}
 use Rattle.jv_base.specs.External.{dotted}
-use Rattle.retrace_core.specs.bodies.Tables.{TellsClass, kept_in}
+use Rattle.retrace_core.specs.bodies.Linked.{kept_in}
+use Rattle.retrace_core.specs.bodies.Tables.{TellsClass}
 use Rattle.retrace_core.proofs.Telling.{copied_some, on_ok, still_tells, tells_more}
 use Rattle.retrace_core.proofs.old_names.put_class.Goals as goal
 

@@ -17,7 +17,7 @@ counts_of-counts-requires g c = record {
 
 pub written_named-requires-clause-writable : goal.written_named-requires-clause-writable
 written_named-requires-clause-writable g c κs within =
-    named_writable c.args.classes c.args.marked.now c.args.rules.now (names_in c.in_ok-names.names) c.in_ok-kept.kept
+    named_writable c.args.classes c.args.marked.now c.args.rules.now c.args.old.now (names_in c.in_ok-names.names) c.in_ok-kept.kept
     c.in_ok-kept.ensures (c.in_ok-names.ensures c.args.rules.now c.args.classes c.requires.fixed) c.requires.writable
 
 pub returns-in_err-written : goal.returns-in_err-written
@@ -25,14 +25,14 @@ returns-in_err-written g c =
     let p = err_from_is_err_and c.from_residual-in_err-written.result c.from_residual-in_err-written.ensures.1 in
     record {
       exact = rw (p.1, p.2)
-          (named_stops c.args.classes c.args.marked.now c.args.rules.now (names_in c.in_ok-names.names) c.in_ok-kept.kept
+          (named_stops c.args.classes c.args.marked.now c.args.rules.now c.args.old.now (names_in c.in_ok-names.names) c.in_ok-kept.kept
           c.in_ok-kept.ensures (c.in_ok-names.ensures c.args.rules.now c.args.classes c.requires.fixed)
           c.in_err-written.field-0.0 c.in_err-written.ensures.exact);
     }
 
 pub returns : goal.returns
 returns g c = record {
-  exact = named_shrunk c.args.classes c.args.marked.now c.args.rules.now (names_in c.in_ok-names.names)
+  exact = named_shrunk c.args.classes c.args.marked.now c.args.rules.now c.args.old.now (names_in c.in_ok-names.names)
       c.in_ok-kept.kept c.in_ok-kept.ensures
       (c.in_ok-names.ensures c.args.rules.now c.args.classes c.requires.fixed) c.in_ok-written.written
       c.counts_of-read.result c.counts_of-counts.result c.in_ok-written.ensures.exact

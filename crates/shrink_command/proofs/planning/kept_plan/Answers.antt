@@ -18,5 +18,5 @@ optimise_if-requires-clause-typed g c κs within = c.requires.given.typed
 pub returns : goal.returns
 returns g c =
     then_makes (AreOptimised c.args.rules.now c.args.set c.args.marked.now)
-    (FollowsCodes c.args.rules.now c.args.witness.now c.args.set c.args.marked.now) c.in_ok-optimised.optimised
+    (FollowsCodes c.args.rules.now c.args.old.now c.args.witness.now c.args.set c.args.marked.now) c.in_ok-optimised.optimised
     c.codes_plan.result c.in_ok-optimised.ensures c.codes_plan.ensures

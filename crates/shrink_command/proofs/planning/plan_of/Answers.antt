@@ -13,9 +13,9 @@ pub returns-in_err-set : goal.returns-in_err-set
 returns-in_err-set g c =
     let p = err_from_is_err_and c.from_residual.result c.from_residual.ensures.1 in
     rw (p.1, p.2) (makes_stops (IsSet c.args.rules.now.in_dir c.args.inputs)
-    (IsPlanned c.args.rules.now c.args.witness.now) c.in_err-set.field-0.0 c.in_err-set.ensures.made)
+    (IsPlanned c.args.rules.now c.args.old.now c.args.witness.now) c.in_err-set.field-0.0 c.in_err-set.ensures.made)
 
 pub returns : goal.returns
 returns g c =
-    then_makes (IsSet c.args.rules.now.in_dir c.args.inputs) (IsPlanned c.args.rules.now c.args.witness.now)
+    then_makes (IsSet c.args.rules.now.in_dir c.args.inputs) (IsPlanned c.args.rules.now c.args.old.now c.args.witness.now)
     c.in_ok-set.set c.set_plan.result c.in_ok-set.ensures.made c.set_plan.ensures

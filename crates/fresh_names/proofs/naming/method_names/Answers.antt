@@ -1,0 +1,16 @@
+use Rattle.std.proofs.Common.{◌∙◌, ap, ◌++◌, map}
+use Rattle.jv_base.specs.Types.{method_text}
+use Rattle.jv_base.proofs.Lists.{flat_more}
+use Rattle.class_model.specs.declared.class.Class.{Class}
+use Rattle.class_model.specs.declared.class.Method.{Method}
+use Rattle.fresh_names.proofs.OneMore.{same_done}
+use Rattle.fresh_names.proofs.naming.method_names.Goals as goal
+
+pub loop-class-preserved : goal.loop-class-preserved
+loop-class-preserved c =
+    c.in_ok-push_methods.ensures
+    ∙ ap (λ l. l ++ map (λ (m : Method). (m.name, method_text m.ty)) c.as_slice.result.now) c.loop-class.invariant
+    ∙ same_done (λ (m : Method). (m.name, method_text m.ty)) _ c.as_slice.result.now c.class-item.result.methods _
+    c.as_slice.ensures
+    (flat_more (λ (k : Class). map (λ (m : Method). (m.name, method_text m.ty)) k.methods) c.args.kept.now
+    c.loop-class.class-index c.class-item.result c.loop-class-test.true c.class-item.is)

@@ -1,0 +1,28 @@
+use Rattle.std.proofs.Common.{List, Bool, [], ap, subst, arith}
+use Rattle.std.specs.Prelude.{slice_index_or}
+use Rattle.std.proofs.lemmas.List.{take_all}
+use Rattle.class_model.specs.declared.class.Class.{Class}
+use Rattle.rename_map.specs.Fixed.{methods_of_each, named_marked}
+use Rattle.class_rename.specs.Names.{is_same_method}
+use Rattle.rename_map.specs.bodies.Adding.{Adds}
+use Rattle.rename_map.proofs.Added.{adds_none, numbered_adds}
+use Rattle.rename_map.proofs.methods.gather_methods.Goals as goal
+
+pub loop-number-init : goal.loop-number-init
+loop-number-init c = adds_none c.args.methods.now
+
+pub loop-number-preserved : goal.loop-number-preserved
+loop-number-preserved c =
+    numbered_adds (λ e. named_marked (slice_index_or c.args.rows.now e.0 []) e.1) c.args.input.now
+    c.loop-number.number
+    c.class.result.now c.args.methods.now c.loop-number.methods c.add_methods.new.methods
+    (named_marked c.row_of.result.now c.class.result.now) c.class.ensures.is
+    (ap (λ (row : List Bool). named_marked row c.class.result.now) c.row_of.ensures) c.loop-number.invariant
+    c.in_ok-add_methods.ensures
+
+pub returns : goal.returns
+returns c =
+    subst (λ (l : List Class). Adds is_same_method c.args.methods.now (methods_of_each c.args.rows.now l)
+    c.loop-number.methods)
+    (take_all c.loop-number.number c.args.input.now (omega (arith, c.loop-number-test.false, c.len-number-end.ensures)))
+    c.loop-number.invariant

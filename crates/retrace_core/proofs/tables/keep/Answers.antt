@@ -1,6 +1,0 @@
-use Rattle.retrace_core.proofs.Telling.{put_found}
-use Rattle.retrace_core.proofs.tables.keep.Goals as goal
-
-pub returns : goal.returns
-returns c = λ name. rw c.in_ok-insert.ensures.entries
-    (put_found (λ k. k.now) c.args.new c.args.old c.args.table.now.entries name)
