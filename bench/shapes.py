@@ -13,7 +13,7 @@ import os, resource, shutil, struct, subprocess, sys, tempfile, time
 
 sys.dont_write_bytecode = True
 sys.path.insert(0, os.path.join(os.path.dirname(os.path.abspath(__file__)), '..', 'crates', 'set_vectors'))
-from assembler import FINAL, OBJECT, PUBLIC, STATIC, File, Method, Pool, abstract, attribute, body, interface
+from assembler import FINAL, OBJECT, PRIVATE, PUBLIC, STATIC, File, Method, Pool, abstract, attribute, body, interface
 
 LONG = 'n' * 65000
 
@@ -376,6 +376,13 @@ def chain_opened(n):
         yield file
 
 
+def chain_private(n):
+    """A chain of N classes, each with twenty methods of the same names, which are private in the lower half and public above."""
+    names = [f'p/C{i:05}' for i in range(n)] + [OBJECT]
+    for i in range(n):
+        yield File(names[i], names[i + 1], methods=[Method(f'm{k}', '()V', PRIVATE if 2 * i < n else PUBLIC, ['return']) for k in range(20)])
+
+
 def below_chain(n):
     """A chain of N classes whose lowest one implements an interface of N methods, which none of them has."""
     yield interface('p/I', methods=[abstract(f'm{k}') for k in range(n)])
@@ -530,10 +537,10 @@ attribute_filters.rules = lambda n: '-keep class ** { *; }\n-keepattributes ' + 
 
 USUAL = [classes, deep, deep_large, chain, overriding, implementing, interfaces, extending, calls]
 HOSTILE = [strings, long_calls, handlers, throws, descriptors, long_arguments, frames, full_frames, branches, covering, changing, beginning, differing, ending, making, framing, wanting, deep_frames, tall, overriding_twenty, overloads, two_overloads, colliding, alike_ends, colliding_classes]
-COSTLY = [chain_methods, chain_opened, below_chain, chain_final, same_interface, high_references, interface_dense, interface_dense_up, two_chains, nops, wide_frames,
+COSTLY = [chain_methods, chain_opened, chain_private, below_chain, chain_final, same_interface, high_references, interface_dense, interface_dense_up, two_chains, nops, wide_frames,
           wide_methods, line_rows, rule_members, rule_overloads, rule_stars, rule_parameters, long_pattern, wildcard_rules, named_rules, attribute_filters]
 SIZES = {
-    'chain_methods': [200, 400, 800], 'chain_opened': [20, 40, 80], 'below_chain': [1250, 2500, 5000], 'chain_final': [1250, 2500, 5000], 'same_interface': [250, 500, 1000],
+    'chain_methods': [200, 400, 800], 'chain_opened': [20, 40, 80], 'chain_private': [20, 40, 80], 'below_chain': [1250, 2500, 5000], 'chain_final': [1250, 2500, 5000], 'same_interface': [250, 500, 1000],
     'high_references': [1000, 2000, 4000], 'interface_dense': [125, 250, 500], 'interface_dense_up': [125, 250, 500],
     'two_chains': [500, 1000, 2000], 'nops': [31, 62, 124], 'wide_frames': [250, 500, 1000], 'wide_methods': [250, 500, 1000],
     'line_rows': [10000, 20000, 40000], 'rule_members': [2000, 4000, 8000], 'rule_overloads': [2000, 4000, 8000], 'rule_stars': [2000, 4000, 8000], 'rule_parameters': [250000, 500000, 1000000],

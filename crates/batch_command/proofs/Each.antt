@@ -6,6 +6,7 @@ use Rattle.std.proofs.lemmas.List.{append_assoc, append-nil}
 use Rattle.std.proofs.lemmas.List.Sums.{sum_by-append}
 use Rattle.jv_base.proofs.Results.{same_fault, same_ok}
 use Rattle.tree_io.specs.Files.{Files}
+use Rattle.tree_io.specs.declared.file_at.FileAt.{FileAt}
 use Rattle.command_frame.specs.Refusal.{passed}
 use Rattle.command_frame.specs.Steps.{Seen}
 use Rattle.command_frame.specs.declared.refusal.Quantity.TheVariants as quantity
@@ -14,11 +15,10 @@ use Rattle.command_frame.specs.declared.stop.Stop.{Stop}
 use Rattle.command_frame.specs.declared.stop.Stop.TheVariants.{Refused, Device, OutOfMemory}
 use Rattle.batch_command.specs.Caught.{caught}
 use Rattle.batch_command.specs.Finding.{Caught, FindsAll, MakesAll}
-use Rattle.batch_command.specs.Jobs.{AreInputs, Each, EachBefore, HasNames, IsInput, IsNamed, IsRead, IsTaken, Parts, bytes_in}
-use Rattle.batch_command.specs.Jobs.{bytes_of}
+use Rattle.batch_command.specs.Jobs.{AreClassFiles, Each, EachBefore, HasNames, IsNamed, Parts}
 use Rattle.batch_command.specs.bodies.Steps.{HasRoom}
+use Rattle.batch_command.specs.bodies.Workers.{AreFound, AreTaken, IsFound, bytes_in, bytes_of}
 use Rattle.batch_command.specs.declared.work.JobConfig.{JobConfig}
-use Rattle.batch_command.specs.declared.work.JobInput.{JobInput}
 use Rattle.batch_command.proofs.Finding.{both_gave, caught_all, found_none, gave_behind, had, halt, lacks_behind}
 use Rattle.batch_command.proofs.Finding.{next_halts, refused_behind}
 
@@ -112,26 +112,21 @@ module _ {X Y : Type 0} (IsDue : Files → X → Result Y Refusal → Type 0) (a
       gave_behind (Before rest) All ys ys before after
       (λ files h. before_whole (IsDue files) all rest ys h none) p
 
--- ---- inputs
+-- ---- class files
 
-pub bytes_more : (inputs : List (Result JobInput Refusal)) (input : Result JobInput Refusal)
-    → bytes_in (inputs ++ input ∷ []) ≡ bytes_in inputs + bytes_of input
-bytes_more inputs input = omega (arith, sum_by-append bytes_of inputs (input ∷ []))
-
-pub taken_more : (inputs : List (Result JobInput Refusal)) (input : Result JobInput Refusal)
-    → AllByRecursion IsTaken inputs → IsTaken input → AllByRecursion IsTaken (inputs ++ input ∷ [])
-taken_more [] input all h = (h, tt)
-taken_more (x ∷ inputs) input all h = (all.0, taken_more inputs input all.1 h)
+pub bytes_more : (found : List (Result (List FileAt) Refusal)) (files : Result (List FileAt) Refusal)
+    → bytes_in (found ++ files ∷ []) ≡ bytes_in found + bytes_of files
+bytes_more found files = omega (arith, sum_by-append bytes_of found (files ∷ []))
 
 -- what was caught is taken as it was found
-pub caught_taken : (r : Result JobInput Stop) (input : Result JobInput Refusal) → Ok input ≡ caught r
-    → IfOk r IsRead → IsTaken input
-caught_taken (Ok found) input is h =
-    subst IsTaken (sym (same_ok {X = Stop} input (Ok found) is)) h
-caught_taken (Err (Refused refusal)) input is h =
-    subst IsTaken (sym (same_ok {X = Stop} input (Err refusal) is)) tt
-caught_taken (Err Device) input is h = absurd cc
-caught_taken (Err OutOfMemory) input is h = absurd cc
+pub caught_taken : (r : Result (List FileAt) Stop) (files : Result (List FileAt) Refusal) → Ok files ≡ caught r
+    → IfOk r AreClassFiles → AreTaken files
+caught_taken (Ok found) files is h =
+    subst AreTaken (sym (same_ok {X = Stop} files (Ok found) is)) h
+caught_taken (Err (Refused refusal)) files is h =
+    subst AreTaken (sym (same_ok {X = Stop} files (Err refusal) is)) tt
+caught_taken (Err Device) files is h = absurd cc
+caught_taken (Err OutOfMemory) files is h = absurd cc
 
 -- so is what was caught of a config
 pub caught_named : (r : Result JobConfig Stop) (config : Result JobConfig Refusal) → Ok config ≡ caught r
@@ -149,40 +144,37 @@ named_more [] config all h = (h, tt)
 named_more (x ∷ configs) config all h = (all.0, named_more configs config all.1 h)
 
 module _ (parts : Parts) (configs : List (Result JobConfig Refusal)) where
-  abbrev pub Input : Files → Result JobConfig Refusal → Result JobInput Refusal → Type 0
-  Input files = IsInput parts files
+  abbrev pub Found : Files → Result (List (Result (List FileAt) Refusal)) Refusal → Type 0
+  Found files = AreFound parts files configs
 
-  abbrev pub Inputs : Files → Result (List (Result JobInput Refusal)) Refusal → Type 0
-  Inputs files = AreInputs parts files configs
+  pub found_end : (rest : List (Result JobConfig Refusal)) (found : List (Result (List FileAt) Refusal))
+      (before after : Seen) → FindsAll (had found) (Before (IsFound parts) configs rest) before after → rest ≡ []
+      → bytes_in found ≤ 67108864 → FindsAll (had found) Found before after
+  found_end rest found before after p none few =
+      gave_behind (Before (IsFound parts) configs rest) Found found found before after
+      (λ files h. (before_whole (IsFound parts files) configs rest found h none, few)) p
 
-  pub inputs_end : (rest : List (Result JobConfig Refusal)) (inputs : List (Result JobInput Refusal))
-      (before after : Seen) → FindsAll (had inputs) (Before Input configs rest) before after → rest ≡ []
-      → bytes_in inputs ≤ 67108864 → FindsAll (had inputs) Inputs before after
-  inputs_end rest inputs before after p none few =
-      gave_behind (Before Input configs rest) Inputs inputs inputs before after
-      (λ files h. (before_whole (Input files) configs rest inputs h none, few)) p
-
-  pub inputs_many : (rest : List (Result JobConfig Refusal)) (inputs : List (Result JobInput Refusal))
-      (before after : Seen) → 67108864 < bytes_in inputs
-      → FindsAll (had inputs) (Before Input configs rest) before after
-      → FindsAll (halt {A = List (Result JobInput Refusal)} (Refused (passed quantity.Batch))) Inputs before after
-  inputs_many rest inputs before after many p =
-      refused_behind (Before Input configs rest) Inputs inputs (passed quantity.Batch) before after
-      (λ files h. (refl, (rest, inputs, h, many))) p
+  found_many : (rest : List (Result JobConfig Refusal)) (found : List (Result (List FileAt) Refusal))
+      (before after : Seen) → 67108864 < bytes_in found
+      → FindsAll (had found) (Before (IsFound parts) configs rest) before after
+      → FindsAll (halt {A = List (Result (List FileAt) Refusal)} (Refused (passed quantity.Batch))) Found before after
+  found_many rest found before after many p =
+      refused_behind (Before (IsFound parts) configs rest) Found found (passed quantity.Batch) before after
+      (λ files h. (refl, (rest, found, h, many))) p
 
   -- the class files have no room, or there is no memory to say so
-  pub inputs_stop : (rest : List (Result JobConfig Refusal)) (inputs : List (Result JobInput Refusal)) (room : ℕ)
-      (input : Result JobInput Refusal) (stop : Stop) (before after : Seen) → room + bytes_in inputs ≡ 67108864
-      → HasRoom room (bytes_of input) (Err stop)
-      → FindsAll (had (inputs ++ input ∷ [])) (Before Input configs rest) before after
-      → FindsAll (halt {A = List (Result JobInput Refusal)} stop) Inputs before after
-  inputs_stop rest inputs room input (Refused refusal) before after left h p =
-      subst (λ (r : Refusal). FindsAll (halt {A = List (Result JobInput Refusal)} (Refused r)) Inputs before after)
-      (sym h.0) (inputs_many rest (inputs ++ input ∷ []) before after
-      (omega (arith, left, h.1, bytes_more inputs input)) p)
-  inputs_stop rest inputs room input Device before after left h p = absurd h
-  inputs_stop rest inputs room input OutOfMemory before after left h p =
-      lacks_behind (Before Input configs rest) Inputs (inputs ++ input ∷ []) before after p
+  pub found_stop : (rest : List (Result JobConfig Refusal)) (found : List (Result (List FileAt) Refusal)) (room : ℕ)
+      (files : Result (List FileAt) Refusal) (stop : Stop) (before after : Seen) → room + bytes_in found ≡ 67108864
+      → HasRoom room (bytes_of files) (Err stop)
+      → FindsAll (had (found ++ files ∷ [])) (Before (IsFound parts) configs rest) before after
+      → FindsAll (halt {A = List (Result (List FileAt) Refusal)} stop) Found before after
+  found_stop rest found room files (Refused refusal) before after left h p =
+      subst (λ (r : Refusal). FindsAll (halt {A = List (Result (List FileAt) Refusal)} (Refused r)) Found before after)
+      (sym h.0) (found_many rest (found ++ files ∷ []) before after
+      (omega (arith, left, h.1, bytes_more found files)) p)
+  found_stop rest found room files Device before after left h p = absurd h
+  found_stop rest found room files OutOfMemory before after left h p =
+      lacks_behind (Before (IsFound parts) configs rest) Found (found ++ files ∷ []) before after p
 
 -- ---- plans
 

@@ -92,6 +92,16 @@ refused_none {A} refusal IsDue before so = record {
       (record { wrote = refl; had_memory = refl; holds = λ files left run. so files });
 }
 
+-- memory was wanting before anything was asked
+pub lacks_none : {A : Type 0} (IsDue : Files → Result A Refusal → Type 0) (before : Seen)
+    → FindsAll (halt {A = A} OutOfMemory) IsDue before before
+lacks_none {A} IsDue before = record {
+  files = refl;
+  later = omega arith;
+  device = λ is. absurd cc;
+  found = made_none (Showed (halt {A = A} OutOfMemory) IsDue) before.calls before.files refl;
+}
+
 -- ---- one step after another, by what each shows
 
 module _ {A B : Type 0} (First : Files → Result A Refusal → Type 0) (Both : Files → Result B Refusal → Type 0) where

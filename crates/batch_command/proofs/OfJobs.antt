@@ -19,11 +19,11 @@ use Rattle.batch_command.specs.Answer.{Ending, LeavesSo, StopsSo, WritesUntil, d
 use Rattle.batch_command.specs.Answer.{text_without_memory}
 use Rattle.batch_command.specs.Batch.{IsDue, batch_of}
 use Rattle.batch_command.specs.Jobs.{AreAnswers, AreApart, AreInputs, AreListed, Each, FollowsApart, FollowsConfigs}
+use Rattle.batch_command.specs.Jobs.{JobInput}
 use Rattle.batch_command.specs.Jobs.{FollowsList, IsInput, IsJob, IsPlan, Parts, input_of}
 use Rattle.batch_command.specs.Laws.{DoesJobs, IsOfJobs, Leaves, LeavesSome, LeavesStopped, LeavesTold}
 use Rattle.batch_command.specs.declared.joined.Batch.{Batch}
 use Rattle.batch_command.specs.declared.work.JobConfig.{JobConfig}
-use Rattle.batch_command.specs.declared.work.JobInput.{JobInput}
 
 -- ---- one job
 

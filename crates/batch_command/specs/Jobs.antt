@@ -23,9 +23,13 @@ use Rattle.command_frame.specs.declared.refusal.Quantity.TheVariants as quantity
 use Rattle.command_frame.specs.declared.refusal.Reason.TheVariants.{Overlap}
 use Rattle.command_frame.specs.declared.refusal.Refusal.{Refusal}
 use Rattle.batch_command.specs.declared.work.JobConfig.{JobConfig}
-use Rattle.batch_command.specs.declared.work.JobInput.{JobInput}
 
 -- ---- one job
+
+-- a job of which all was read: its config and its class files
+pub record JobInput : Type 0 where
+  pub config : JobConfig
+  pub inputs : List FileAt
 
 -- what is due of each part of a job: its config with the earlier mapping that it names, the class files that its rules
 -- name, and its plan
@@ -121,10 +125,6 @@ pub record AreClassFiles (files : List FileAt) : Type 0 where
 pub record IsRead (input : JobInput) : Type 0 where
   pub names : HasNames input.config
   pub files : AreClassFiles input.inputs
-
-abbrev pub IsTaken : Result JobInput Refusal → Type 0
-IsTaken (Ok input) = IsRead input
-IsTaken (Err refusal) = Unit {0}
 
 -- the job's class files, where it has a config
 abbrev pub IsInput : Parts → Files → Result JobConfig Refusal → Result JobInput Refusal → Type 0

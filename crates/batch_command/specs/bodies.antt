@@ -1,2 +1,3 @@
 -- Definitions that the proofs of bodies alone need.
 pub mod Steps
+pub mod Workers

@@ -14,7 +14,9 @@ use class_files::write_files;
 use command_frame::{Stop, say_stop, say_text};
 use jv_base::Text;
 use std::alloc::Global;
-use tree_io::{Sink, Tree, WriteFault};
+use std::sync::Wait;
+use std::thread::Threads;
+use tree_io::{Gate, Sink, Tree, WriteFault};
 
 /// Does the jobs of a list: finds what each is to write and to say, writes the files of all in the order of the list,
 /// says a report of each, and answers the status of the first job whose status isn't 0, or 0. All is read before
@@ -37,12 +39,15 @@ use tree_io::{Sink, Tree, WriteFault};
 /// then their class files; each job that was refused is left out of what follows. A refusal of a job is told in its
 /// report, and the others go on. After a refusal of the batch no file has changed. After 7 and 10 the first of the files
 /// to be written may stand; after 7 the next path may hold any bytes.
-pub fn run_jobs<W: Work, T: Tree, S: Sink>(
+pub fn run_jobs<R: Threads + Wait + Sync, W: Work + Sync, T: Tree, S: Sink, G: Gate>(
+    rt: &R,
     alloc: Global,
     work: &W,
+    workers: u32,
     list: &Text,
     tree: &mut T,
     out: &mut S,
+    gate: &G,
 ) -> u8
     requires { W.ready work.now }
 
@@ -64,17 +69,20 @@ pub fn run_jobs<W: Work, T: Tree, S: Sink>(
         (outside (T.files tree.new) (T.faults tree.new) (T.log tree.new)
         (output (S.written out.new) (S.faults out.new) (S.log out.new))) }
 {
-    match carry_out(alloc, work, list, tree) {
+    match carry_out(rt, alloc, work, workers, list, gate, tree) {
         Ok(batch) => say_batch(&batch, out),
         Err(stop) => say_stop(alloc, &stop, out),
     }
 }
 
 /// Writes the files of all jobs.
-fn carry_out<W: Work, T: Tree>(
+fn carry_out<R: Threads + Wait + Sync, W: Work + Sync, T: Tree, G: Gate>(
+    rt: &R,
     alloc: Global,
     work: &W,
+    workers: u32,
     list: &Text,
+    gate: &G,
     tree: &mut T,
 ) -> Result<Batch, Stop>
     requires { W.ready work.now }
@@ -83,7 +91,7 @@ fn carry_out<W: Work, T: Tree>(
     ensures left { AddsCalls (T.log tree.old) (T.log tree.new) (T.files tree.old) (T.files tree.new)
         (CarriesOut (IsDue W.parts list.now) result) }
 {
-    let batch = find_batch(alloc, work, list, tree)?;
+    let batch = find_batch(rt, alloc, work, workers, list, gate, tree)?;
     match write_files(alloc, &batch.plan.files, tree) {
         Ok(()) => Ok(batch),
         Err(WriteFault::Failed) => Err(Stop::Device),

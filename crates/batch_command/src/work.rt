@@ -1,7 +1,7 @@
 // What a job is.
 ghost use Rattle.std.specs.Prelude.{IfOk};
 ghost use Rattle.command_frame.specs.Steps.{Finds, Makes, seen};
-ghost use Rattle.batch_command.specs.Jobs.{AreClassFiles, HasNames, IsRead, Parts};
+ghost use Rattle.batch_command.specs.Jobs.{AreClassFiles, HasNames, IsRead, Parts, input_of};
 
 use batch_list::JobFiles;
 use command_frame::{Plan, Stop};
@@ -17,13 +17,6 @@ pub struct JobConfig {
     pub files: JobFiles,
     pub rules: Rules,
     pub earlier: Option<Mapping>,
-}
-
-/// A job whose input was read.
-#[derive(Drop)]
-pub struct JobInput {
-    pub config: JobConfig,
-    pub inputs: Items<FileAt>,
 }
 
 /// What each job of a batch does, in three parts: it finds its config with the earlier mapping that it names, finds its
@@ -61,9 +54,15 @@ pub trait Work {
             (seen (T.files tree.old) (T.faults tree.old) (T.log tree.old))
             (seen (T.files tree.new) (T.faults tree.new) (T.log tree.new)) };
 
-    /// What a job is to write and to say.
-    fn make_plan(&self, alloc: Global, job: JobInput) -> Result<Plan, Stop>
+    /// What a job with this config and these class files is to write and to say. It may have so many workers inside.
+    fn make_plan(
+        &self,
+        alloc: Global,
+        workers: u32,
+        config: &JobConfig,
+        inputs: Items<FileAt>,
+    ) -> Result<Plan, Stop>
         requires ready { ready self.now }
-        requires taken { IsRead job }
-        ensures { Makes result (parts.plan job) };
+        requires taken { IsRead (input_of config.now inputs) }
+        ensures { Makes result (parts.plan (input_of config.now inputs)) };
 }

@@ -1,6 +1,8 @@
 // Gates that hold a worker until another one has done something, to see that two of them work at a time.
+use jv_base::{Bytes, Items, Text};
+use std::alloc::Global;
 use std::sync::atomic::{AtomicU32, Ordering};
-use tree_io::{Gate, Turn};
+use tree_io::{Gate, ListFault, ReadFault, Tree, Turn, WriteFault};
 
 // How often a worker that is held looks whether it may go on.
 const MOST_LOOKS: u32 = 200_000_000;
@@ -146,5 +148,108 @@ impl Gate for Move {
             Turn::Finished => {}
             Turn::Left => self.left.store(1, Ordering::SeqCst),
         }
+    }
+}
+
+// ---- a meeting of two jobs
+
+/// Holds the first worker beside the caller that takes a job, until a file is read, and holds that read until this worker
+/// has finished its job.
+#[derive(Drop)]
+pub(crate) struct JobMeeting {
+    // The worker that took a job first, of those beside the caller, which is 0.
+    held: AtomicU32,
+    // 1 where the read has begun.
+    begun: AtomicU32,
+    // 1 where that worker has finished the job.
+    finished: AtomicU32,
+    // How often the other side came too late, or never.
+    late: AtomicU32,
+}
+
+impl JobMeeting {
+    pub(crate) fn new() -> JobMeeting {
+        JobMeeting {
+            held: AtomicU32::new(0),
+            begun: AtomicU32::new(0),
+            finished: AtomicU32::new(0),
+            late: AtomicU32::new(0),
+        }
+    }
+
+    /// Whether the worker finished the job while the read was held, and nobody came too late.
+    pub(crate) fn took_place(&self) -> bool {
+        self.finished.load(Ordering::SeqCst) == 1 && self.late.load(Ordering::SeqCst) == 0
+    }
+
+    // Looks until the word is 1.
+    fn hold(&self, word: &AtomicU32) {
+        for _ in 0..MOST_LOOKS {
+            if word.load(Ordering::SeqCst) == 1 {
+                return;
+            }
+        }
+        self.late.fetch_add(1, Ordering::SeqCst);
+    }
+
+    fn read_begins(&self) {
+        self.begun.store(1, Ordering::SeqCst);
+        self.hold(&self.finished);
+    }
+}
+
+impl Gate for JobMeeting {
+    fn turn(&self, worker: u32, at: Turn) {
+        if worker == 0 {
+            return;
+        }
+        match at {
+            Turn::Took => {
+                if self
+                    .held
+                    .compare_exchange(0, worker, Ordering::SeqCst, Ordering::SeqCst)
+                    .is_ok()
+                {
+                    self.hold(&self.begun);
+                }
+            }
+            Turn::Finished => {
+                if self.held.load(Ordering::SeqCst) == worker {
+                    self.finished.store(1, Ordering::SeqCst);
+                }
+            }
+            Turn::Left => {}
+        }
+    }
+}
+
+/// A tree whose read of one path tells a meeting that it begins, and is held there.
+#[derive(Drop)]
+pub(crate) struct HeldTree<'m, T> {
+    pub(crate) tree: T,
+    pub(crate) held: Text,
+    pub(crate) meeting: &'m JobMeeting,
+}
+
+impl<'m, T: Tree> Tree for HeldTree<'m, T> {
+    ghost files = { λ t. T.files t.tree };
+
+    ghost faults = { λ t. T.faults t.tree };
+
+    ghost log = { λ t. T.log t.tree };
+
+    fn list(&mut self, alloc: Global, dir: &Text, max: u32) -> Result<Items<Text>, ListFault> {
+        self.tree.list(alloc, dir, max)
+    }
+
+    fn read(&mut self, alloc: Global, path: &Text, max: u64) -> Result<Bytes, ReadFault> {
+        if *path == self.held {
+            self.meeting.read_begins();
+        }
+        self.tree.read(alloc, path, max)
+    }
+
+    fn write(&mut self, alloc: Global, path: &Text, bytes: &[u8]) -> Result<(), WriteFault> {
+        self.tree.write(alloc, path, bytes)
     }
 }

@@ -1,4 +1,6 @@
 mod OpenAbove
 mod CountedPairs
+mod ChainSteps
 mod PackageRows
 mod PackageRuns
+mod FreeRuns

@@ -138,12 +138,75 @@ is_open false true o is = absurd cc
 is_open false false true is = refl
 is_open false false false is = absurd cc
 
+-- its package alone may override it
+pub of_package : (p i o : Bool) → cond p Private (cond i Abstract (cond o Open Package)) ≡ Package
+    → (p ≡ false) × ((i ≡ false) × (o ≡ false))
+of_package true i o is = absurd cc
+of_package false true o is = absurd cc
+of_package false false true is = absurd cc
+of_package false false false is = (refl, (refl, refl))
+
+any_where : (s mo : Bool) → (s || mo) ≡ (s || (mo && true))
+any_where true mo = refl
+any_where false true = refl
+any_where false false = refl
+
+opened_where : (p q h : Bool) → (p || q) ≡ false → h ≡ true → true ≡ ((not p && not q) && h)
+opened_where true q h narrow opened = absurd cc
+opened_where false true h narrow opened = absurd cc
+opened_where false false h narrow opened = sym opened
+
+open_class : (p i o : Bool) → cond p Private (cond i Abstract (cond o Open Package)) ≡ Open → i ≡ false
+open_class true i o is = absurd cc
+open_class false true o is = absurd cc
+open_class false false o is = refl
+
 is_free : (p i o : Bool) → is_overriding (cond p Private (cond i Abstract (cond o Open Package))) ≡ true
     → (not p && not i) ≡ true
 is_free true i o is = is
 is_free false true o is = is
 is_free false false true is = refl
 is_free false false false is = refl
+
+-- where a method between opens one to all packages, the first one that is it or may override is selected
+pub opened_selected : (classes : List Class) (table : List (List InstanceMethod)) (are : AreRows classes table)
+    (run : ℕ) (row : InstanceMethod) (n : ℕ) → IsRow classes are.number n row → 0 < row.number
+    → row.openness ≡ Package → is_class_below classes (Prog run) (Prog row.class) ≡ true
+    → has_open_override classes (member_at row) (alike_from classes (member_at row) (Prog run)) ≡ true
+    → selected classes (Prog run) (member_at row)
+    ≡ find (overrides_openly classes (member_at row)) (alike_from classes (member_at row) (Prog run))
+opened_selected classes table are run row n is some kind above opened =
+    let m : MemberAt = member_at row in
+    let ms : List MemberAt = alike_from classes m (Prog run) in
+    let flags = of_package (is_private_member classes m) (is_interface_in classes m.class)
+    (is_public_member classes m || is_protected_member classes m) (sym is.openness ∙ kind) in
+    let same : overrides_openly classes m ≡ overrides_where classes m true =
+    λ i x. any_where (same_member x m) (may_override classes x) i in
+    ap (λ b. cond b (first_instance classes (Prog run) (named_at classes m))
+    (first (overriding_from classes (Prog run) m))) flags.1.0
+    ∙ sym (first_found classes m ms true
+    (alike_above classes m (Prog run)
+    (alike_first classes table are row n is some row n is (eq-eqb row.number row.number refl)) ∙ above)
+    (opened_where (is_public_member classes m) (is_protected_member classes m) (has_open_override classes m ms)
+    flags.1.1 opened))
+    ∙ ap (λ (t : MemberAt → Bool). find t ms) (sym same)
+
+-- the same of one that those of all packages may override
+pub open_row_selected : (classes : List Class) (table : List (List InstanceMethod)) (are : AreRows classes table)
+    (run : ℕ) (row : InstanceMethod) (n : ℕ) → IsRow classes are.number n row → 0 < row.number
+    → row.openness ≡ Open → is_class_below classes (Prog run) (Prog row.class) ≡ true
+    → selected classes (Prog run) (member_at row)
+    ≡ find (overrides_openly classes (member_at row)) (alike_from classes (member_at row) (Prog run))
+open_row_selected classes table are run row n is some kind above =
+    let m : MemberAt = member_at row in
+    sym (open_selected classes run m (superclasses_from classes (Prog run)) is.instance refl (record {
+      class = open_class (is_private_member classes m) (is_interface_in classes m.class)
+          (is_public_member classes m || is_protected_member classes m) (sym is.openness ∙ kind);
+      first = alike_first classes table are row n is some row n is (eq-eqb row.number row.number refl);
+      above = above;
+      wide = is_open (is_private_member classes m) (is_interface_in classes m.class)
+          (is_public_member classes m || is_protected_member classes m) (sym is.openness ∙ kind);
+    }))
 
 module _ (classes : List Class) (table : List (List InstanceMethod)) (are : AreRows classes table) (run : ℕ)
     (there : All (IsClass classes) (superclasses_from classes (Prog run))) (row nearest : InstanceMethod) (n o : ℕ)
@@ -215,3 +278,17 @@ module _ (classes : List Class) (table : List (List InstanceMethod)) (are : AreR
           (first (overriding_from classes (Prog run) m)) ≡ Some y
       by true e = first_found_is
       by false e = of_class e runs
+
+  free : is_overriding nearest.openness ≡ true → may_override classes y ≡ true
+  free over =
+      ap (λ b. b && not (is_private_member classes y) && not (is_interface_in classes y.class)) that.instance
+      ∙ is_free (is_private_member classes y) (is_interface_in classes y.class)
+      (is_public_member classes y || is_protected_member classes y) (ap is_overriding (sym that.openness) ∙ over)
+
+  -- where a method between opens it to all packages, the nearest one that may override is selected
+  pub opened_runs : row.openness ≡ Package → is_class_below classes (Prog run) (Prog row.class) ≡ true
+      → is_overriding nearest.openness ≡ true → has_open_override classes m (alike_from classes m (Prog run)) ≡ true
+      → selected classes (Prog run) m ≡ Some y
+  opened_runs kind above over opened =
+      opened_selected classes table are run row n is some kind above opened
+      ∙ nearest_openly classes m y (alike_from classes m (Prog run)) is.instance first_found_is (free over)

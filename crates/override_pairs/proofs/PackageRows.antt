@@ -309,7 +309,7 @@ front_part h table (Prog n ∷ cs) =
     (λ i. part_at h table n i ++ front_part h table cs i)
     ∙ sym (filter_map-append h (get_or table n []) (front_rows table cs))
 
-mapped_length : {X Y : Type 0} (f : X → Y) (xs : List X) → length (map f xs) ≡ length xs
+pub mapped_length : {X Y : Type 0} (f : X → Y) (xs : List X) → length (map f xs) ≡ length xs
 mapped_length f [] = refl
 mapped_length f (x ∷ xs) = ap suc (mapped_length f xs)
 

@@ -1,10 +1,11 @@
 -- Which method runs where one is called that those of its package alone may override.
 use Rattle.std.proofs.Common.{◌≡◌, ℕ, zero, suc, ◌<◌, ◌==◌, not, ◌&&◌, ◌||◌, Bool, true, false, cond, List, [], ◌∷◌}
-use Rattle.std.proofs.Common.{length, map, get_or, slice_get, Option, Some, None, refl, sym, ap, ◌∙◌, subst}
+use Rattle.std.proofs.Common.{length, map, get_or, slice_get, Option, Some, None, refl, sym, ap, ◌∙◌, subst, ◌≤◌, arith}
+use Rattle.std.proofs.Common.{nat_lt}
 use Rattle.std.specs.Prelude.{IfSome}
 use Rattle.std.specs.List.{All, cons_option, find, list_any}
 use Rattle.std.specs.Option.{option_map, option_map_or, option_or}
-use Rattle.std.proofs.lemmas.Bool.{eq-eqb, or_parts}
+use Rattle.std.proofs.lemmas.Bool.{eq-eqb, ltb-false, ltb-true, or_parts, or_right}
 use Rattle.std.proofs.lemmas.List.Elements.{All-head, All-tail}
 use Rattle.std.proofs.lemmas.List.Folds.{find-append}
 use Rattle.std.proofs.lemmas.Option.{same_Some}
@@ -14,6 +15,7 @@ use Rattle.class_pool.specs.Found.{NameAndType, declared_by, declared_in, is_ins
 use Rattle.class_pool.specs.Found.{is_protected_member, is_public_member, named_at, package_of, same_member}
 use Rattle.class_pool.specs.Found.{same_package}
 use Rattle.class_pool.specs.Hierarchy.{IsClass, superclass}
+use Rattle.class_pool.specs.Ranks.{HasRanks}
 use Rattle.class_pool.specs.Members.{declared_at}
 use Rattle.class_pool.specs.Resolution.{first, is_class_below, is_interface_in}
 use Rattle.class_pool.specs.Selection.{first_instance, may_be_overridden, may_override, overriding_from, selected}
@@ -36,6 +38,9 @@ use Rattle.method_places.specs.declared.places.Places.{Places}
 use Rattle.method_places.proofs.InstanceRows.{alike_first, alike_named, all_rows, each_row, found_holds, front_tested}
 use Rattle.method_places.proofs.InstanceRows.{none_holds}
 use Rattle.method_places.proofs.Noting.{nearest_noted}
+use Rattle.item_numbers.specs.bodies.Supers.{program_number}
+use Rattle.override_pairs.proofs.ChainSteps.{Once, at_among, up_once}
+use Rattle.override_pairs.proofs.OpenAbove.{of_package}
 use Rattle.override_pairs.proofs.PackageRows.{front_part, part_found, placed_alike, placed_number}
 
 -- ---- the library is behind the program
@@ -240,14 +245,101 @@ module _ (classes : List Class) (table : List (List InstanceMethod)) (are : AreR
       (declared_by classes (named_at classes (member_at row)) cs) h.0
       (not_opened cs (All-tail (IsClass classes) (Prog p) cs there) behind h.1)
 
+  closed_itself : (x w a h : Bool) → w ≡ false → h ≡ false → (((x && w) && a) || h) ≡ false
+  closed_itself false w a h narrow rest = rest
+  closed_itself true true a h narrow rest = absurd cc
+  closed_itself true false a h narrow rest = rest
+
+  -- nor where the first row that opens it stands behind it
+  pub opened_behind : (cs : List ClassId) → All (IsClass classes) cs → Once cs
+      → (is_public_member classes (member_at row) || is_protected_member classes (member_at row)) ≡ false
+      → (r : InstanceMethod) (i j : ℕ) → find q (front_rows table cs) ≡ Some r → slice_get cs i ≡ Some (Prog r.class)
+      → slice_get cs j ≡ Some (Prog row.class) → j ≤ i
+      → has_open_override classes (member_at row)
+      (declared_by classes (named_at classes (member_at row)) cs) ≡ false
+  opened_behind [] there once narrow r i j found at own le = absurd cc
+  opened_behind (Lib id ∷ cs) there once narrow r i j found at own le = absurd cc
+  opened_behind (Prog p ∷ cs) there once narrow r zero (suc j) found at own le = absurd (omega (arith, le))
+  opened_behind (Prog p ∷ cs) there once narrow r i zero found at own le =
+      let m : MemberAt = member_at row in
+      let named : NameAndType = named_at classes m in
+      let rest : List MemberAt = declared_by classes named cs in
+      let same : p ≡ row.class = same_Some p row.class (ap program_number own) in
+      let first : declared_in classes named (Prog row.class) ≡ Some m =
+      alike_first classes table are row n is some row n is (eq-eqb row.number row.number refl) in
+      ap (λ (k : ℕ). has_open_override classes m (cons_option (declared_in classes named (Prog k)) rest)) same
+      ∙ ap (λ (o : Option MemberAt). has_open_override classes m (cons_option o rest)) first
+      ∙ closed_itself (may_override classes m && may_be_overridden classes m.class m)
+      (is_public_member classes m || is_protected_member classes m) (is_among m rest)
+      (has_open_override classes m rest) narrow
+      (closed_without classes m rest
+      (among_declared (declared_in classes named) (declared_class classes named) m cs first
+      ∙ subst (λ (k : ℕ). list_any (same_class (Prog k)) cs ≡ false) same once.0))
+  opened_behind (Prog p ∷ cs) there once narrow r (suc i) (suc j) found at own le =
+      let within : p < length classes = All-head (IsClass classes) (Prog p) cs there in
+      by (find q (class_rows classes are.number p)) refl
+      (sym (rows_first classes table are row n is some q (overrides_openly classes (member_at row)) one same
+      openly_instance p cs within) ∙ found)
+      (λ both. opened_behind cs (All-tail (IsClass classes) (Prog p) cs there) once.1 narrow r i j both at own
+      (omega (arith, le)))
+    where
+      by : (o : Option InstanceMethod) → find q (class_rows classes are.number p) ≡ o
+          → option_or o (find q (front_rows table cs)) ≡ Some r
+          → (find q (front_rows table cs) ≡ Some r → has_open_override classes (member_at row)
+          (declared_by classes (named_at classes (member_at row)) cs) ≡ false)
+          → has_open_override classes (member_at row)
+          (declared_by classes (named_at classes (member_at row)) (Prog p ∷ cs)) ≡ false
+      by (Some x) here both next =
+          let same : x ≡ r = same_Some x r both in
+          let home : x.class ≡ p = (found_holds (IsRow classes are.number p) q (class_rows classes are.number p) x
+          (all_rows classes are.number p) here).0.class in
+          let again : slice_get cs i ≡ Some (Prog p) =
+          at ∙ ap (λ (y : InstanceMethod). Some (Prog y.class)) (sym same) ∙ ap (λ (k : ℕ). Some (Prog k)) home in
+          absurd (let h : false ≡ true = sym once.0 ∙ at_among cs i (Prog p) again in cc)
+      by None here both next =
+          no_open (declared_in classes (named_at classes (member_at row)) (Prog p))
+          (declared_by classes (named_at classes (member_at row)) cs)
+          (in_class classes table are row n is some q (overrides_openly classes (member_at row)) one same
+          openly_instance p None here (declared_in classes (named_at classes (member_at row)) (Prog p)) refl)
+          (next both)
+
+-- where one of the methods opens it and stands in front of it, it is opened
+module _ (classes : List Class) (m y : MemberAt) (opens : overrides_openly classes m y ≡ true)
+    (first : declared_in classes (named_at classes m) m.class ≡ Some m)
+    (that : declared_in classes (named_at classes m) y.class ≡ Some y) where
+  pub opened_before : (cs : List ClassId) (i j : ℕ) → slice_get cs i ≡ Some y.class → slice_get cs j ≡ Some m.class
+      → i < j → has_open_override classes m (declared_by classes (named_at classes m) cs) ≡ true
+  opened_before [] i j at own lt = absurd cc
+  opened_before (c ∷ cs) i zero at own lt = absurd (omega (arith, lt))
+  opened_before (c ∷ cs) zero (suc j) at own lt =
+      let named : NameAndType = named_at classes m in
+      let rest : List MemberAt = declared_by classes named cs in
+      let among : is_among m rest ≡ true =
+      among_declared (declared_in classes named) (declared_class classes named) m cs first
+      ∙ at_among cs j m.class own in
+      ap (λ (o : Option MemberAt). has_open_override classes m (cons_option o rest))
+      (ap (declared_in classes named) (same_Some c y.class at) ∙ that)
+      ∙ (λ k. (opens k && among k) || has_open_override classes m rest)
+  opened_before (c ∷ cs) (suc i) (suc j) at own lt =
+      by (declared_in classes (named_at classes m) c) (opened_before cs i j at own (omega (arith, lt)))
+    where
+      by : (o : Option MemberAt) → has_open_override classes m (declared_by classes (named_at classes m) cs) ≡ true
+          → has_open_override classes m (cons_option o (declared_by classes (named_at classes m) cs)) ≡ true
+      by None h = h
+      by (Some x) h = or_right (overrides_openly classes m x && is_among m (declared_by classes (named_at classes m) cs))
+          (has_open_override classes m (declared_by classes (named_at classes m) cs)) h
+
 -- ---- what runs
 
-of_package : (p i o : Bool) → cond p Private (cond i Abstract (cond o Open Package)) ≡ Package
-    → (p ≡ false) × ((i ≡ false) × (o ≡ false))
-of_package true i o is = absurd cc
-of_package false true o is = absurd cc
-of_package false false true is = absurd cc
-of_package false false false is = (refl, (refl, refl))
+pub found_passes : (test : InstanceMethod → Bool) (rows : List InstanceMethod) (r : InstanceMethod)
+    → find test rows ≡ Some r → test r ≡ true
+found_passes test [] r found = absurd cc
+found_passes test (x ∷ rows) r found = by (test x) refl found (found_passes test rows r)
+  where
+    by : (b : Bool) → test x ≡ b → cond b (Some x) (find test rows) ≡ Some r
+        → (find test rows ≡ Some r → test r ≡ true) → test r ≡ true
+    by true e h next = ap test (sym (same_Some x r h)) ∙ e
+    by false e h next = next h
 
 by_package : (i p q h s : Bool) → i ≡ true → p ≡ false → q ≡ false → h ≡ false
     → (i && ((p || q) || (not h && s))) ≡ s
@@ -277,7 +369,6 @@ module _ (classes : List Class) (table : List (List InstanceMethod)) (are : AreR
     (named : packages ≡ map (λ c. package_number names (package_of c.name)) classes) (run : ℕ)
     (there : All (IsClass classes) (superclasses_from classes (Prog run))) (row : InstanceMethod) (n : ℕ)
     (is : IsRow classes are.number n row) (some : 0 < row.number) (kind : row.openness ≡ Package)
-    (above : is_class_below classes (Prog run) (Prog row.class) ≡ true)
     (p : ℕ) (place : place_in packages keys row ≡ p) (low : 0 < p) where
   abbrev m : MemberAt
   m = member_at row
@@ -340,20 +431,52 @@ module _ (classes : List Class) (table : List (List InstanceMethod)) (are : AreR
   test_where x = itself_where (same_member x m) (may_override classes x) (may_be_overridden classes x.class m)
       (own_passes x)
 
-  -- the nearest method with the place of one runs where that is called and no method with the place opens it
-  pub package_runs : (r : InstanceMethod)
-      → find (λ r. is_part Each r.openness && (place_in packages keys r == p))
-      (front_rows table (superclasses_from classes (Prog run))) ≡ Some r
-      → find (λ r. is_part OfOpen r.openness && (place_in packages keys r == p))
-      (front_rows table (superclasses_from classes (Prog run))) ≡ None
+  abbrev chain : List ClassId
+  chain = superclasses_from classes (Prog run)
+
+  abbrev opens : InstanceMethod → Bool
+  opens r = is_part OfOpen r.openness && (place_in packages keys r == p)
+
+  first_of : declared_in classes (named_at classes m) m.class ≡ Some m
+  first_of = alike_first classes table are row n is some row n is (eq-eqb row.number row.number refl)
+
+  -- where no method with the place of one is open to all packages, none opens that one
+  pub none_opens : find opens (front_rows table chain) ≡ None
+      → has_open_override classes m (alike_from classes m (Prog run)) ≡ false
+  none_opens none =
+      not_opened classes table are row n is some opens open_number open_is chain there
+      (up_behind classes row.class highest (Prog run)) none
+
+  -- nor where the nearest one stands behind it
+  pub behind_opens : HasRanks classes → run < length classes → (r : InstanceMethod) (i j : ℕ)
+      → find opens (front_rows table chain) ≡ Some r → slice_get chain i ≡ Some (Prog r.class)
+      → slice_get chain j ≡ Some (Prog row.class) → j ≤ i
+      → has_open_override classes m (alike_from classes m (Prog run)) ≡ false
+  behind_opens ranks within r i j found at own le =
+      opened_behind classes table are row n is some opens open_number open_is chain there
+      (up_once classes ranks highest (Prog run) within) flags.1.1 r i j found at own le
+
+  -- it does where it stands in front of it
+  pub before_opens : (r : InstanceMethod) (i j : ℕ) → find opens (front_rows table chain) ≡ Some r
+      → slice_get chain i ≡ Some (Prog r.class) → slice_get chain j ≡ Some (Prog row.class) → i < j
+      → has_open_override classes m (alike_from classes m (Prog run)) ≡ true
+  before_opens r i j found at own lt =
+      let that = front_tested classes table are chain there opens r found in
+      let passes = found_passes opens (front_rows table chain) r found in
+      let alike = open_number r passes in
+      opened_before classes m (member_at r) (sym (open_is r.class r that alike) ∙ passes) first_of
+      (ap (λ (t : NameAndType). declared_in classes t (Prog r.class))
+      (alike_named classes table are row n is some r r.class that alike)
+      ∙ alike_first classes table are row n is some r r.class that alike)
+      chain i j at own lt
+
+  -- the nearest method with the place of one runs where that is called and no method opens it
+  pub package_runs : is_class_below classes (Prog run) (Prog row.class) ≡ true → (r : InstanceMethod)
+      → find (λ r. is_part Each r.openness && (place_in packages keys r == p)) (front_rows table chain) ≡ Some r
+      → has_open_override classes m (alike_from classes m (Prog run)) ≡ false
       → selected classes (Prog run) m ≡ Some (member_at r)
-  package_runs r found none =
+  package_runs above r found closed =
       let ms : List MemberAt = alike_from classes m (Prog run) in
-      let first_of = alike_first classes table are row n is some row n is (eq-eqb row.number row.number refl) in
-      let closed : has_open_override classes m ms ≡ false =
-      not_opened classes table are row n is some (λ r. is_part OfOpen r.openness && (place_in packages keys r == p))
-      open_number open_is (superclasses_from classes (Prog run)) there
-      (up_behind classes row.class highest (Prog run)) none in
       let same : overrides_where classes m false ≡ test = λ i x. test_where x i in
       ap (λ b. cond b (first_instance classes (Prog run) (named_at classes m))
       (first (overriding_from classes (Prog run) m))) flags.1.0
@@ -372,61 +495,95 @@ module _ (classes : List Class) (table : List (List InstanceMethod)) (are : AreR
 
 -- ---- what is noted
 
--- where the nearest method of the place is noted, and none that opens it, that one runs
-pub noted_runs : (classes : List Class) (table : List (List InstanceMethod)) (are : AreRows classes table)
-    (places : Places) → HavePlaces classes table places → (run : ℕ)
-    → All (IsClass classes) (superclasses_from classes (Prog run)) → (row : InstanceMethod) (n : ℕ)
-    → IsRow classes are.number n row → 0 < row.number → row.openness ≡ Package
-    → is_class_below classes (Prog run) (Prog row.class) ≡ true → (p : ℕ)
-    → place_in places.packages places.keys.items row ≡ p → 0 < p → (stamp : ℕ) (placed opening : List Note)
-    → AreNoted stamp (front_rows places.each (superclasses_from classes (Prog run))) placed
-    → AreNoted stamp (front_rows places.opening (superclasses_from classes (Prog run))) opening
-    → p < length opening → noted stamp (slice_get opening p) ≡ None → (o : Option InstanceMethod)
-    → noted stamp (slice_get placed p) ≡ o
-    → IfSome o (λ found. (selected classes (Prog run) (member_at row) ≡ Some (member_at found))
-    × HasItem classes found)
-noted_runs classes table are places have run there row n is some kind above p place low stamp placed opening each open_are
-    within closed None e = tt
-noted_runs classes table are places have run there row n is some kind above p place low stamp placed opening each open_are
-    within closed (Some found) e =
-    by (find first rows) refl
-    (sym (part_found places.packages places.keys.items Each p low rows)
-    ∙ ap (λ (t : List InstanceMethod). find (λ r. r.number == p) t)
-    (sym (front_part (part_row places.packages places.keys.items Each) table chain)
-    ∙ ap (λ (t : List (List InstanceMethod)). front_rows t chain) (sym have.each))
-    ∙ nearest_noted stamp (front_rows places.each chain) placed p found each low e)
-  where
-    chain : List ClassId
-    chain = superclasses_from classes (Prog run)
+module _ (classes : List Class) (table : List (List InstanceMethod)) (are : AreRows classes table) (places : Places)
+    (have : HavePlaces classes table places) (run : ℕ)
+    (there : All (IsClass classes) (superclasses_from classes (Prog run))) (row : InstanceMethod) (n : ℕ)
+    (is : IsRow classes are.number n row) (some : 0 < row.number) (kind : row.openness ≡ Package)
+    (p : ℕ) (place : place_in places.packages places.keys.items row ≡ p) (low : 0 < p) (stamp : ℕ) where
+  abbrev noted_chain : List ClassId
+  noted_chain = superclasses_from classes (Prog run)
 
-    rows : List InstanceMethod
-    rows = front_rows table chain
+  abbrev noted_rows : List InstanceMethod
+  noted_rows = front_rows table noted_chain
 
-    first : InstanceMethod → Bool
-    first r = is_part Each r.openness && (place_in places.packages places.keys.items r == p)
+  -- where the nearest method of the place is noted, and none opens it, that one runs
+  pub noted_runs : is_class_below classes (Prog run) (Prog row.class) ≡ true → (placed : List Note)
+      → AreNoted stamp (front_rows places.each noted_chain) placed
+      → has_open_override classes (member_at row) (alike_from classes (member_at row) (Prog run)) ≡ false
+      → (o : Option InstanceMethod) → noted stamp (slice_get placed p) ≡ o
+      → IfSome o (λ found. (selected classes (Prog run) (member_at row) ≡ Some (member_at found))
+      × HasItem classes found)
+  noted_runs above placed each closed None e = tt
+  noted_runs above placed each closed (Some found) e =
+      by (find first noted_rows) refl
+      (sym (part_found places.packages places.keys.items Each p low noted_rows)
+      ∙ ap (λ (t : List InstanceMethod). find (λ r. r.number == p) t)
+      (sym (front_part (part_row places.packages places.keys.items Each) table noted_chain)
+      ∙ ap (λ (t : List (List InstanceMethod)). front_rows t noted_chain) (sym have.each))
+      ∙ nearest_noted stamp (front_rows places.each noted_chain) placed p found each low e)
+    where
+      first : InstanceMethod → Bool
+      first r = is_part Each r.openness && (place_in places.packages places.keys.items r == p)
 
-    opens : InstanceMethod → Bool
-    opens r = is_part OfOpen r.openness && (place_in places.packages places.keys.items r == p)
+      by : (o : Option InstanceMethod) → find first noted_rows ≡ o → option_map (λ r. with_number r p) o ≡ Some found
+          → (selected classes (Prog run) (member_at row) ≡ Some (member_at found)) × HasItem classes found
+      by None at h = absurd cc
+      by (Some r) at h =
+          let same : with_number r p ≡ found = same_Some _ _ h in (
+            package_runs classes table are places.packages places.keys.items have.names have.packages run there row n is
+                some kind p place low above r at closed
+                ∙ ap (λ (y : InstanceMethod). Some (member_at y)) same,
+            subst (HasItem classes) same (front_tested classes table are noted_chain there first r at).item,
+          )
 
-    nothing : (o : Option InstanceMethod) → option_map (λ r. with_number r p) o ≡ None → o ≡ None
-    nothing None h = refl
-    nothing (Some r) h = absurd cc
+  abbrev noted_opening : InstanceMethod → Bool
+  noted_opening r = is_part OfOpen r.openness && (place_in places.packages places.keys.items r == p)
 
-    none : find opens rows ≡ None
-    none = nothing (find opens rows)
-        (sym (part_found places.packages places.keys.items OfOpen p low rows)
-        ∙ ap (λ (t : List InstanceMethod). find (λ r. r.number == p) t)
-        (sym (front_part (part_row places.packages places.keys.items OfOpen) table chain)
-        ∙ ap (λ (t : List (List InstanceMethod)). front_rows t chain) (sym have.opening))
-        ∙ sym (open_are p low within) ∙ closed)
+  opening_found : (opening : List Note) → AreNoted stamp (front_rows places.opening noted_chain) opening
+      → p < length opening
+      → noted stamp (slice_get opening p) ≡ option_map (λ r. with_number r p) (find noted_opening noted_rows)
+  opening_found opening open_are within =
+      open_are p low within
+      ∙ ap (λ (t : List InstanceMethod). find (λ r. r.number == p) t)
+      (ap (λ (t : List (List InstanceMethod)). front_rows t noted_chain) have.opening
+      ∙ front_part (part_row places.packages places.keys.items OfOpen) table noted_chain)
+      ∙ part_found places.packages places.keys.items OfOpen p low noted_rows
 
-    by : (o : Option InstanceMethod) → find first rows ≡ o → option_map (λ r. with_number r p) o ≡ Some found
-        → (selected classes (Prog run) (member_at row) ≡ Some (member_at found)) × HasItem classes found
-    by None at h = absurd cc
-    by (Some r) at h =
-        let same : with_number r p ≡ found = same_Some _ _ h in (
-          package_runs classes table are places.packages places.keys.items have.names have.packages run there row n is
-              some kind above p place low r at none
-              ∙ ap (λ (y : InstanceMethod). Some (member_at y)) same,
-          subst (HasItem classes) same (front_tested classes table are chain there first r at).item,
-        )
+  -- where no method of the place is noted that is open to all packages, none opens it
+  pub noted_none : (opening : List Note) → AreNoted stamp (front_rows places.opening noted_chain) opening
+      → p < length opening → noted stamp (slice_get opening p) ≡ None
+      → has_open_override classes (member_at row) (alike_from classes (member_at row) (Prog run)) ≡ false
+  noted_none opening open_are within none =
+      none_opens classes table are places.packages places.keys.items have.names have.packages run there row n is some
+      kind p place low (nothing (find noted_opening noted_rows) (sym (opening_found opening open_are within) ∙ none))
+    where
+      nothing : (o : Option InstanceMethod) → option_map (λ r. with_number r p) o ≡ None → o ≡ None
+      nothing None h = refl
+      nothing (Some r) h = absurd cc
+
+  -- where one is, it opens it where it is nearer
+  pub noted_opens : HasRanks classes → run < length classes → (opening : List Note)
+      → AreNoted stamp (front_rows places.opening noted_chain) opening → p < length opening → (s : InstanceMethod)
+      → noted stamp (slice_get opening p) ≡ Some s → (i j : ℕ) → slice_get noted_chain i ≡ Some (Prog s.class)
+      → slice_get noted_chain j ≡ Some (Prog row.class)
+      → has_open_override classes (member_at row) (alike_from classes (member_at row) (Prog run)) ≡ nat_lt i j
+  noted_opens ranks run-in opening open_are within s noted_is i j at own =
+      by (find noted_opening noted_rows) refl (sym (opening_found opening open_are within) ∙ noted_is)
+    where
+      either : (r : InstanceMethod) → find noted_opening noted_rows ≡ Some r
+          → slice_get noted_chain i ≡ Some (Prog r.class) → (b : Bool) → nat_lt i j ≡ b
+          → has_open_override classes (member_at row) (alike_from classes (member_at row) (Prog run)) ≡ b
+      either r found here true e =
+          before_opens classes table are places.packages places.keys.items have.names have.packages run there row n is
+          some kind p place low r i j found here own (ltb-true i j e)
+      either r found here false e =
+          behind_opens classes table are places.packages places.keys.items have.names have.packages run there row n is
+          some kind p place low ranks run-in r i j found here own (ltb-false i j e)
+
+      by : (o : Option InstanceMethod) → find noted_opening noted_rows ≡ o
+          → option_map (λ r. with_number r p) o ≡ Some s
+          → has_open_override classes (member_at row) (alike_from classes (member_at row) (Prog run)) ≡ nat_lt i j
+      by None found h = absurd cc
+      by (Some r) found h =
+          let same : with_number r p ≡ s = same_Some _ _ h in
+          either r found (at ∙ ap (λ (y : InstanceMethod). Some (Prog y.class)) (sym same)) (nat_lt i j) refl

@@ -1,6 +1,7 @@
 //! What a class and a method above it need together: the method that runs.
 #![tactic(auto)]
 
+mod free;
 mod pairs;
 mod receiver;
 

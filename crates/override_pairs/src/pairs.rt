@@ -4,18 +4,19 @@ ghost use Rattle.std.specs.Prelude.{slice_index_or, true};
 ghost use Rattle.std.specs.List.{All, cons_option, filter, filter_map, flat_map};
 ghost use Rattle.class_pool.specs.Found.{IsMember, same_member};
 ghost use Rattle.class_pool.specs.Hierarchy.{IsClass};
-ghost use Rattle.class_pool.specs.Resolution.{is_class_below};
 ghost use Rattle.class_pool.specs.Walk.{superclasses_from};
 ghost use Rattle.class_pool.specs.declared.id.ClassId.TheVariants.{Prog};
 ghost use Rattle.require_sys.specs.Requires.{class_pairs, is_inheritable, pair_of};
-ghost use Rattle.override_pairs.specs.bodies.Above.{IsAbove, IsClassAbove, IsReceiver};
+ghost use Rattle.override_pairs.specs.bodies.Above.{AreSteps, IsAbove, IsClassAbove, IsReceiver};
 ghost use Rattle.method_places.specs.bodies.Alike.{AreRows, HasItem, member_at};
 ghost use Rattle.override_pairs.specs.bodies.Counting.{AddsPairs, HasPairs};
+ghost use Rattle.override_pairs.specs.bodies.Free.{HasFree};
 ghost use Rattle.method_places.specs.bodies.Nearest.{IsListed, is_hidden};
 ghost use Rattle.method_places.specs.bodies.Places.{HavePlaces};
 ghost use Rattle.item_numbers.specs.bodies.Selecting.{all_pairs, pair_with, pairs_in};
 ghost use Rattle.item_numbers.specs.bodies.Tops.{AreAbove};
 
+use crate::free::Free;
 use crate::receiver::{Receiver, member_of};
 use class_model::Class;
 use class_pool::{ClassId, ClassSet, MemberAt};
@@ -58,11 +59,15 @@ impl Pairs {
 struct Above {
     /// For each class one that it is or is a superclass of.
     below: Vec<u32>,
+    /// How many steps it is above that.
+    steps: Vec<usize>,
     /// The nearest methods from a class upwards.
     notes: Vec<Note>,
     /// Those of each place, and of these the ones that methods of all packages may override.
     placed: Vec<Note>,
     opening: Vec<Note>,
+    /// Those that may override others, where a private method has their number.
+    freed: Vec<Note>,
 }
 
 /// A class above the one whose pairs are found.
@@ -87,11 +92,12 @@ pub fn pairs_of(alloc: Global, numbered: &Numbered, methods: &Methods) -> M<Pair
         count: 0,
     };
     let places = Places::of(alloc, set, methods.of_classes.as_slice())?;
+    let free = Free::of(alloc, methods)?;
     let mut above = nothing_above(alloc, set, methods.highest, places.highest())?;
     for number in 0..set.len() {
         let class = set.class(number);
         add_class(
-            alloc, numbered, methods, &places, &mut above, number, class, &mut pairs,
+            alloc, numbered, methods, &places, &free, &mut above, number, class, &mut pairs,
         )?;
     }
     Ok(pairs)
@@ -101,14 +107,18 @@ fn nothing_above(alloc: Global, set: &ClassSet, highest: usize, highest_place: u
     ensures { IfOk result (IsAbove set.now 0) }
 {
     let below = own_numbers(alloc, set)?;
+    let steps = vec![in alloc; 0usize; set.len() as usize]?;
     let notes = no_notes(alloc, highest)?;
     let placed = no_notes(alloc, highest_place)?;
     let opening = no_notes(alloc, highest_place)?;
+    let freed = no_notes(alloc, highest)?;
     Ok(Above {
         below,
+        steps,
         notes,
         placed,
         opening,
+        freed,
     })
 }
 
@@ -118,6 +128,7 @@ fn add_class(
     numbered: &Numbered,
     methods: &Methods,
     places: &Places,
+    free: &Free,
     above: &mut Above,
     number: u32,
     class: &Class,
@@ -125,6 +136,7 @@ fn add_class(
 ) -> M<()>
     requires methods { AreRows numbered.now.set.now methods.now.of_classes }
     requires places { HavePlaces numbered.now.set.now methods.now.of_classes places.now }
+    requires free { HasFree methods.now.of_classes free.now }
     requires above { IsAbove numbered.now.set.now number above.old }
     requires there { slice_get numbered.now.set.now number ≡ Some class.now }
     ensures pairs { OnOk result (AddsPairs pairs.old (class_pairs numbered.now.set.now (number, class.now)) pairs.new) }
@@ -141,6 +153,7 @@ fn add_class(
         numbered,
         methods,
         places,
+        free,
         above,
         number,
         top,
@@ -156,6 +169,7 @@ fn add_above(
     numbered: &Numbered,
     methods: &Methods,
     places: &Places,
+    free: &Free,
     above: &mut Above,
     number: u32,
     top: u32,
@@ -165,6 +179,7 @@ fn add_above(
 ) -> M<()>
     requires methods { AreRows numbered.now.set.now methods.now.of_classes }
     requires places { HavePlaces numbered.now.set.now methods.now.of_classes places.now }
+    requires free { HasFree methods.now.of_classes free.now }
     requires above { IsAbove numbered.now.set.now number above.old }
     requires there { number < length numbered.now.set.now }
     requires top { top < length numbered.now.set.now }
@@ -179,10 +194,11 @@ fn add_above(
     }
     let _count = numbered.set.len();
     let stamp = number + 1;
-    mark_above(numbered.set, &mut above.below, top, chain);
+    mark_above(numbered.set, &mut above.below, &mut above.steps, top, chain);
     note_chain(&methods.of_classes, &mut above.notes, stamp, chain);
     note_chain(&places.each, &mut above.placed, stamp, chain);
     note_chain(&places.opening, &mut above.opening, stamp, chain);
+    note_chain(&free.rows, &mut above.freed, stamp, chain);
     let receiver = Receiver {
         numbered,
         class: top,
@@ -193,32 +209,53 @@ fn add_above(
         places,
         placed: above.placed.as_slice(),
         opening: above.opening.as_slice(),
+        steps: above.steps.as_slice(),
+        free,
+        freed: above.freed.as_slice(),
     };
     add_each(&receiver, number, supers, pairs)
 }
 
-/// Notes of a class and its superclasses that they are above it.
-fn mark_above(set: &ClassSet, below: &mut Vec<u32>, number: u32, chain: &[ClassId])
+/// Notes of a class and its superclasses that they are above it, and how many steps.
+fn mark_above(
+    set: &ClassSet,
+    below: &mut Vec<u32>,
+    steps: &mut Vec<usize>,
+    number: u32,
+    chain: &[ClassId],
+)
     requires below { AreAbove set.now below.old.items }
+    requires steps { AreSteps set.now below.old.items steps.old.items }
     requires there { number < length set.now }
     requires chain { chain.now ≡ superclasses_from set.now (Prog number) }
     requires classes { All (IsClass set.now) chain.now }
-    ensures { AreAbove set.now below.new.items }
+    ensures below { AreAbove set.now below.new.items }
+    ensures steps { AreSteps set.now below.new.items steps.new.items }
 {
-    for class in chain {
-        mark_class(set, below, number, class);
+    for step in 0..chain.len() {
+        mark_class(set, below, steps, number, &chain[step], step);
     }
 }
 
-fn mark_class(set: &ClassSet, below: &mut Vec<u32>, number: u32, class: &ClassId)
+fn mark_class(
+    set: &ClassSet,
+    below: &mut Vec<u32>,
+    steps: &mut Vec<usize>,
+    number: u32,
+    class: &ClassId,
+    step: usize,
+)
     requires below { AreAbove set.now below.old.items }
+    requires steps { AreSteps set.now below.old.items steps.old.items }
     requires there { IsClass set.now class.now }
-    requires above { is_class_below set.now (Prog number) class.now ≡ true }
-    ensures { AreAbove set.now below.new.items }
+    requires above { slice_get (superclasses_from set.now (Prog number)) step ≡ Some class.now }
+    ensures below { AreAbove set.now below.new.items }
+    ensures steps { AreSteps set.now below.new.items steps.new.items }
 {
     let _count = set.len();
     if let ClassId::Prog(above) = class {
         below[*above as usize] = number;
+        steps[*above as usize] = step;
     }
 }
 

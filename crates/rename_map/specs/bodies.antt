@@ -1,2 +1,3 @@
 pub mod Adding
 pub mod Widening
+pub mod Kinds

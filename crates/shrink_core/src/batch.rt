@@ -13,7 +13,7 @@ ghost use Rattle.shrink_command.specs.Marking.{FindsMarks};
 ghost use Rattle.shrink_core.specs.Batches.{DoesBatch, IsApplied, RanBatch, shrink_parts};
 
 use crate::command::{MOST_WORKERS, refuse_words};
-use batch_command::{JobConfig, JobInput, Work, run_jobs};
+use batch_command::{JobConfig, Work, run_jobs};
 use batch_list::JobFiles;
 use command_frame::{Plan, Stop, say_no_memory};
 use command_steps::{find_config_apart, find_earlier, find_files};
@@ -25,22 +25,19 @@ use mark_words::Marked;
 use mark_workers::mark_all;
 use shrink_command::{check_empty, plan_of};
 use std::alloc::Global;
+use std::sync::Wait;
 use std::thread::Threads;
-use tree_io::{FileAt, Gate, Sink, Tree};
+use tree_io::{FileAt, Gate, OpenGate, Sink, Tree};
 
 /// What each job of a batch does: it shrinks, as `shrink` does with the same config and witness.
 #[derive(Drop)]
-struct Shrinks<'r, Rt, F> {
-    /// Has the threads in which workers edit and write classes.
+struct Shrinks<'r, Rt> {
+    /// Has the threads in which a job marks, edits and writes classes.
     rt: &'r Rt,
-    /// How many of these there are.
-    workers: usize,
-    /// Finds the least closed set of a system of requirements.
-    mark: F,
 }
 
-impl<'r, Rt: Threads + Sync, F: Fn(&System) -> M<Marked>> Work for Shrinks<'r, Rt, F> {
-    ghost ready = { λ shrinks. IsSync Rt.row × FindsMarks (F.pre shrinks.mark) (F.post shrinks.mark) };
+impl<'r, Rt: Threads + Sync> Work for Shrinks<'r, Rt> {
+    ghost ready = { λ shrinks. IsSync Rt.row };
 
     ghost parts = { shrink_parts };
 
@@ -64,12 +61,23 @@ impl<'r, Rt: Threads + Sync, F: Fn(&System) -> M<Marked>> Work for Shrinks<'r, R
         find_files(alloc, &rules.in_dir, tree)
     }
 
-    fn make_plan(&self, alloc: Global, job: JobInput) -> Result<Plan, Stop> {
-        let JobInput { config, inputs } = job;
+    fn make_plan(
+        &self,
+        alloc: Global,
+        workers: u32,
+        config: &JobConfig,
+        inputs: Items<FileAt>,
+    ) -> Result<Plan, Stop> {
+        let rt = self.rt;
+        let workers = workers.clamp(1, MOST_WORKERS);
+        let mark = |sys: &System| -> M<Marked>
+            requires { IsSync Rt.row × Valid sys.now }
+            ensures { IfOk result (Marks sys.now) }
+        { mark_all(rt, alloc, sys, workers.clamp(1, MOST_WORKERS), &OpenGate) };
         plan_of(
-            self.rt,
-            self.workers,
-            &self.mark,
+            rt,
+            workers as usize,
+            &mark,
             alloc,
             &config.rules,
             &config.earlier,
@@ -110,7 +118,11 @@ fn find_applied<T: Tree>(
 /// | 2, 6, 11, 15 | where a refusal of the whole batch is due | `error STATUS WORD ..` |
 /// | 7 | only where a count of faults rose, the tree's or (once the files stand) the sink's | `error 7 device` |
 /// | 10 | where memory is wanting | `error 10 memory` |
-pub fn run_batch<Rt: Threads + Sync, T: Tree, S: Sink, G: Gate>(
+///
+/// So many jobs are done at a time as there are workers, the caller among them, and each with one worker inside; a job
+/// that is alone, or all where there is one worker, has all workers inside. The gate is told of each job that a worker
+/// took and of each that it finished; the caller is worker 0. That the call returns isn't promised, since it takes locks.
+pub fn run_batch<Rt: Threads + Wait + Sync, T: Tree, S: Sink, G: Gate>(
     rt: &Rt,
     alloc: Global,
     words: &Items<Text>,
@@ -145,7 +157,7 @@ pub fn run_batch<Rt: Threads + Sync, T: Tree, S: Sink, G: Gate>(
 }
 
 /// Runs the batch that words ask for.
-fn run_asked_batch<Rt: Threads + Sync, T: Tree, S: Sink, G: Gate>(
+fn run_asked_batch<Rt: Threads + Wait + Sync, T: Tree, S: Sink, G: Gate>(
     rt: &Rt,
     alloc: Global,
     batch: &Batch,
@@ -163,15 +175,15 @@ fn run_asked_batch<Rt: Threads + Sync, T: Tree, S: Sink, G: Gate>(
         (outside (T.files tree.new) (T.faults tree.new) (T.log tree.new)
         (output (S.written out.new) (S.faults out.new) (S.log out.new))) }
 {
-    let workers = batch.workers;
-    let mark = |sys: &System| -> M<Marked>
-        requires { IsSync Rt.row × IsSync G.row × Valid sys.now }
-        ensures { IfOk result (Marks sys.now) }
-    { mark_all(rt, alloc, sys, workers.clamp(1, MOST_WORKERS), gate) };
-    let shrinks = Shrinks {
+    let shrinks = Shrinks { rt };
+    run_jobs(
         rt,
-        workers: workers.clamp(1, MOST_WORKERS) as usize,
-        mark,
-    };
-    run_jobs(alloc, &shrinks, &batch.list, tree, out)
+        alloc,
+        &shrinks,
+        batch.workers,
+        &batch.list,
+        tree,
+        out,
+        gate,
+    )
 }

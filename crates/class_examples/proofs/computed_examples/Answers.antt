@@ -1,3 +1,4 @@
+-- Answers of `computed_examples`: what its calls ask for, and what it promises.
 use Rattle.class_examples.proofs.Computed as computed
 use Rattle.class_examples.proofs.computed_examples.Goals as goal
 

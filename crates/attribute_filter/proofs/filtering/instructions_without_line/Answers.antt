@@ -1,3 +1,4 @@
+-- Answers of `instructions_without_line`: what its calls ask for, and what it promises.
 use Rattle.std.proofs.Common.{rules}
 use Rattle.std.proofs.lemmas.List.Edits.{map_over_more}
 use Rattle.attribute_filter.specs.Filtered.{without_line}

@@ -1,3 +1,4 @@
+-- Answers of `methods_filtered`: what its calls ask for, and what it promises.
 use Rattle.std.proofs.Common.{rules}
 use Rattle.std.proofs.lemmas.List.Edits.{map_over_more}
 use Rattle.attribute_filter.specs.Filtered.{method_filtered}

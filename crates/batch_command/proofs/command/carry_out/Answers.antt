@@ -1,3 +1,4 @@
+-- Answers of `carry_out`: what its calls ask for, and what it promises.
 use Rattle.std.proofs.lemmas.Result.{err_from_is_err_and}
 use Rattle.tree_io.specs.declared.faults.WriteFault.TheVariants as written
 use Rattle.batch_command.specs.Batch.{IsDue}

@@ -1,3 +1,4 @@
+-- Answers of `run_jobs`: what its calls ask for, and what it promises.
 use Rattle.batch_command.specs.Batch.{IsDue}
 use Rattle.batch_command.proofs.Endings.{answers_memory, ended_before, finished}
 use Rattle.batch_command.proofs.command.run_jobs.Goals as goal

@@ -1,3 +1,4 @@
+-- Answers of `say_batch`: what its calls ask for, and what it promises.
 use Rattle.std.proofs.Common.{refl}
 use Rattle.batch_command.proofs.Endings.{device, no_batch_status, words}
 use Rattle.batch_command.proofs.command.say_batch.Goals as goal

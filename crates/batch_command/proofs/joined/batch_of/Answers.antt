@@ -1,3 +1,4 @@
+-- Answers of `batch_of`: what its calls ask for, and what it promises.
 use Rattle.std.proofs.Common.{◌≡◌, ◌+◌, ◌++◌, ◌∷◌, ℕ, List, length, sym, ap, arith, ◌∙◌, Result}
 use Rattle.std.proofs.lemmas.List.{append_assoc}
 use Rattle.std.specs.Vec.Iter.{into_iter_items}

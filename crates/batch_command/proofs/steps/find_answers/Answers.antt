@@ -1,3 +1,4 @@
+-- Answers of `find_answers`: what its calls ask for, and what it promises.
 use Rattle.std.proofs.lemmas.Result.{err_from_is_err_and}
 use Rattle.tree_io.specs.Files.{Files}
 use Rattle.batch_command.specs.Jobs.{AreListed, FollowsList}

@@ -1,3 +1,4 @@
+-- Answers of `find_batch`: what its calls ask for, and what it promises.
 use Rattle.std.proofs.Common.{◌≡◌, List, Result, Ok, ap}
 use Rattle.std.proofs.lemmas.Result.{err_from_is_err_and}
 use Rattle.command_frame.specs.declared.command.Plan.{Plan}

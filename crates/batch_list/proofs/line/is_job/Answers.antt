@@ -1,3 +1,4 @@
+-- Answers of `is_job`: what its calls ask for, and what it promises.
 use Rattle.std.proofs.Common.{◌∙◌}
 use Rattle.batch_list.specs.Line.{paths_of}
 use Rattle.batch_list.proofs.Naming.{is_there}

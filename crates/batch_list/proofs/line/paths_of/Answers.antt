@@ -1,3 +1,4 @@
+-- Answers of `paths_of`: what its calls ask for, and what it promises.
 use Rattle.text_lines.specs.Cut.{parts_copied}
 use Rattle.batch_list.proofs.Naming.{other_paths, utf8_paths}
 use Rattle.batch_list.proofs.line.paths_of.Goals as goal

@@ -1,3 +1,4 @@
+-- Answers of `texts_in`: what its calls ask for, and what it promises.
 use Rattle.std.proofs.Common.{◌≡◌, Result, Ok, refl}
 use Rattle.std.proofs.lemmas.Result.{err_from_is_err_and}
 use Rattle.mapping_file.specs.declared.mapping.Mapping.{Mapping}

@@ -1,3 +1,4 @@
+-- Answers of `judge_pair`: what its calls ask for, and what it promises.
 use Rattle.std.proofs.Common.{Err, ap}
 use Rattle.rule_system.proofs.SystemDue.{due_is}
 use Rattle.command_frame.specs.Refusal.{absent_by}

@@ -1,3 +1,4 @@
+-- Answers of `judge_set`: what its calls ask for, and what it promises.
 use Rattle.std.proofs.lemmas.Result.{err_from_is_err_and}
 use Rattle.mark_core.specs.declared.system.System.{System}
 use Rattle.command_frame.proofs.Steps.{makes_stops, then_makes}

@@ -1,3 +1,4 @@
+-- Answers of `class_paths`: what its calls ask for, and what it promises.
 use Rattle.std.proofs.Common.{subst, sym}
 use Rattle.std.specs.Ordering.{nat_cmp}
 use Rattle.std.specs.Cmp.Lexicographic.{slice_cmp}

@@ -1,3 +1,4 @@
+-- Answers of `read_file`: what its calls ask for, and what it promises.
 use Rattle.std.proofs.Common.{◌≡◌, [], refl}
 use Rattle.std.proofs.lemmas.Result.{err_from_is_err_and}
 use Rattle.tree_io.specs.Event.{files_to_write}

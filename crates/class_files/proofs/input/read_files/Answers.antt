@@ -1,3 +1,4 @@
+-- Answers of `read_files`: what its calls ask for, and what it promises.
 use Rattle.std.proofs.Common.{◌≡◌, Ok, subst, sym}
 use Rattle.class_files.specs.Input.{AreThere, FindsDue, files_in, input_due, limited, missed}
 use Rattle.class_files.specs.bodies.Input.{paths_due}

@@ -1,3 +1,4 @@
+-- Answers of `computed_rows`: what its calls ask for, and what it promises.
 use Rattle.class_model.proofs.ComputedRows as computed
 use Rattle.class_model.proofs.FormedClass as formed
 use Rattle.class_model.proofs.SpelledClass as whole

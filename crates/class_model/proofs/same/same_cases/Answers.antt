@@ -1,3 +1,4 @@
+-- Answers of `same_cases`: what its calls ask for, and what it promises.
 use Rattle.std.proofs.Common.{rules}
 use Rattle.class_model.proofs.Cases.{cases_Decides}
 use Rattle.class_model.proofs.same.same_cases.Goals as goal

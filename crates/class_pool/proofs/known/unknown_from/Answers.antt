@@ -1,3 +1,4 @@
+-- Answers of `unknown_from`: what its calls ask for, and what it promises.
 use Rattle.std.proofs.Common.{◌≡◌, ◌<◌, ◌++◌, [], ◌∷◌, length, subst, sym}
 use Rattle.std.proofs.lemmas.List.Elements.{All-head, All-push, All-rest, All-same}
 use Rattle.class_pool.specs.Hierarchy.{IsClass}

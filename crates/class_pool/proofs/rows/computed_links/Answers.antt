@@ -1,3 +1,4 @@
+-- Answers of `computed_links`: what its calls ask for, and what it promises.
 use Rattle.class_pool.proofs.ComputedLinks as computed
 use Rattle.class_pool.proofs.rows.computed_links.Goals as goal
 

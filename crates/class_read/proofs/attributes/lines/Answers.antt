@@ -1,3 +1,4 @@
+-- Answers of `lines`: what its calls ask for, and what it promises.
 use Rattle.std.proofs.Common.{◌≡◌, ◌++◌, ◌∷◌, []}
 use Rattle.std.proofs.lemmas.Result.{err_from_is_err_and}
 use Rattle.jv_base.specs.declared.outcome.Or.TheVariants.{Fault}

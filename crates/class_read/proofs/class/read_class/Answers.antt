@@ -1,3 +1,4 @@
+-- Answers of `read_class`: what its calls ask for, and what it promises.
 use Rattle.std.proofs.Common.{arith}
 use Rattle.jv_base.proofs.Due.{due_found, due_only}
 use Rattle.class_model.specs.ClassFile.{File}

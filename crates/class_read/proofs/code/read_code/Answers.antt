@@ -1,3 +1,4 @@
+-- Answers of `read_code`: what its calls ask for, and what it promises.
 use Rattle.std.proofs.Common.{List, Result, sym, ap, subst, ◌∙◌}
 use Rattle.jv_base.specs.Place.{Place}
 use Rattle.format_reading.specs.Reader.{ReadsOr}

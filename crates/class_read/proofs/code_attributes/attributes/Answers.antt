@@ -1,3 +1,4 @@
+-- Answers of `attributes`: what its calls ask for, and what it promises.
 use Rattle.std.proofs.lemmas.Result.{err_from_is_err_and}
 use Rattle.class_model.specs.ReadingAttributes.{attributes}
 use Rattle.class_model.specs.ReadingCodeAttribute.{known_of_code, nothing_seen}

@@ -1,3 +1,4 @@
+-- Answers of `all_named_right`: what its calls ask for, and what it promises.
 use Rattle.std.proofs.Common.{sym, arith}
 use Rattle.std.proofs.lemmas.Result.{err_from_is_err_and}
 use Rattle.class_read.specs.bodies.Entries.{faults_in}

@@ -1,3 +1,4 @@
+-- Answers of `read_pool`: what its calls ask for, and what it promises.
 use Rattle.std.proofs.Common.{ℕ, List, Result, Ok, Err, false, sym, ap, ◌∙◌}
 use Rattle.std.proofs.lemmas.Result.{err_from_is_err_and}
 use Rattle.format_reading.specs.Reader.{u2, or_cut}

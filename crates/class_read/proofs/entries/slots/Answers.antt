@@ -1,3 +1,4 @@
+-- Answers of `slots`: what its calls ask for, and what it promises.
 use Rattle.std.proofs.Common.{◌≡◌, ◌++◌, ◌∷◌, [], false}
 use Rattle.std.proofs.lemmas.Result.{err_from_is_err_and}
 use Rattle.class_model.specs.ReadingPool.{slots}

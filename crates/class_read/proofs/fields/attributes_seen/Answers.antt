@@ -1,3 +1,4 @@
+-- Answers of `attributes_seen`: what its calls ask for, and what it promises.
 use Rattle.std.proofs.Common.{sym}
 use Rattle.class_read.proofs.fields.attributes_seen.Goals as goal
 

@@ -1,3 +1,4 @@
+-- Answers of `decoded`: what its calls ask for, and what it promises.
 use Rattle.std.proofs.Common.{◌≡◌, Err, subst, arith}
 use Rattle.jv_base.specs.Outcome.{FaultIs}
 use Rattle.jv_base.specs.declared.outcome.Or.{Or}

@@ -1,3 +1,4 @@
+-- Answers of `read_instructions`: what its calls ask for, and what it promises.
 use Rattle.std.proofs.Common.{◌≡◌, ◌-◌, ◌≤◌, ℕ, IfOk, ap, subst, ◌∙◌, arith}
 use Rattle.code_read.specs.Decoded.{code_decoded}
 use Rattle.class_read.specs.declared.instructions.Instructions.{Instructions}

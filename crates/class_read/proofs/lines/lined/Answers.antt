@@ -1,3 +1,4 @@
+-- Answers of `lined`: what its calls ask for, and what it promises.
 use Rattle.std.proofs.Common.{ℕ, List, Option, None, ap, ◌∙◌}
 use Rattle.frame_read.specs.bodies.Numbers.{found}
 use Rattle.class_read.specs.bodies.Lines.{lined_by, carried}

@@ -1,3 +1,4 @@
+-- Answers of `method_info`: what its calls ask for, and what it promises.
 use Rattle.std.proofs.Common.{◌||◌, Bool, ℕ, Ok, Result, Option, not, sym, ap, ◌∙◌}
 use Rattle.std.proofs.lemmas.Result.{err_from_is_err_and}
 use Rattle.jv_base.specs.Place.{Place}

@@ -1,3 +1,4 @@
+-- Answers of `pass_attributes`: what its calls ask for, and what it promises.
 use Rattle.std.proofs.lemmas.Result.{err_from_is_err_and}
 use Rattle.class_read.specs.bodies.PassedOver.{attributes_passed}
 use Rattle.class_read.proofs.PassedLoop.{goes_on, ends, is_done}

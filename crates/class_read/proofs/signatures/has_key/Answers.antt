@@ -1,3 +1,4 @@
+-- Answers of `has_key`: what its calls ask for, and what it promises.
 use Rattle.std.proofs.Common.{Bool, ap, ◌∙◌}
 use Rattle.std.specs.List.{list_any}
 use Rattle.class_read.specs.bodies.Signatures.{SignatureKey}

@@ -1,3 +1,4 @@
+-- Answers of `push_key`: what its calls ask for, and what it promises.
 use Rattle.std.proofs.Common.{◌≡◌, true, cond, List, sym, subst}
 use Rattle.std.specs.List.{list_any}
 use Rattle.class_model.specs.ReadingMembers.{Signature}

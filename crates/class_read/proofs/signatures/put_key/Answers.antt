@@ -1,3 +1,4 @@
+-- Answers of `put_key`: what its calls ask for, and what it promises.
 use Rattle.std.proofs.Common.{◌≡◌, Bool, true, cond, subst}
 use Rattle.std.specs.List.{list_any}
 use Rattle.class_read.specs.bodies.Signatures.{SignatureKey}

@@ -1,3 +1,4 @@
+-- Answers of `rename_references_of_each`: what its calls ask for, and what it promises.
 use Rattle.std.proofs.Common.{rules, ◌∙◌}
 use Rattle.std.proofs.lemmas.List.Edits.{map_over_more}
 use Rattle.class_rename.specs.Names.{names_in}

@@ -1,3 +1,4 @@
+-- Answers of `is_cut`: what its calls ask for, and what it promises.
 use Rattle.std.proofs.Common.{◌∙◌, ◌-◌, List, ap, arith, slice_get, sym}
 use Rattle.std.proofs.lemmas.Bool.{not-true}
 use Rattle.class_model.specs.FrameLists.{frame_numbered}

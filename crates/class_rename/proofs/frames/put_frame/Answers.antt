@@ -1,3 +1,4 @@
+-- Answers of `put_frame`: what its calls ask for, and what it promises.
 use Rattle.std.proofs.Common.{◌∙◌, ◌++◌, [], ◌∷◌, ap, map}
 use Rattle.std.proofs.lemmas.Result.{on_ok_weaker}
 use Rattle.class_model.specs.FrameLists.{frame_numbered}

@@ -1,3 +1,4 @@
+-- Answers of `field_text`: what its calls ask for, and what it promises.
 use Rattle.class_rename.specs.Names.{names_in}
 use Rattle.class_rename.specs.Renamed.{renamed_field_text}
 use Rattle.class_rename.proofs.Known.{found_if}

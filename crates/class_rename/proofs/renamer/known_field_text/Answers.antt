@@ -1,3 +1,4 @@
+-- Answers of `known_field_text`: what its calls ask for, and what it promises.
 use Rattle.std.proofs.Common.{◌∙◌, is_ok}
 use Rattle.class_rename.specs.Names.{names_in}
 use Rattle.class_rename.specs.Renamed.{renamed_field_text}

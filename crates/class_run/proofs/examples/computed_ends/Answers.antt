@@ -1,3 +1,4 @@
+-- Answers of `computed_ends`: what its calls ask for, and what it promises.
 use Rattle.class_run.proofs.ComputedEnds as computed
 use Rattle.class_run.proofs.examples.computed_ends.Goals as goal
 

@@ -1,3 +1,4 @@
+-- Answers of `answer`: what its calls ask for, and what it promises.
 use Rattle.class_vectors.proofs.answer.answer.Goals as goal
 
 pub written_answer-requires-clause-well_formed : goal.written_answer-requires-clause-well_formed

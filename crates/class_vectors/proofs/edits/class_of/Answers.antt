@@ -1,3 +1,4 @@
+-- Answers of `class_of`: what its calls ask for, and what it promises.
 use Rattle.class_vectors.proofs.edits.class_of.Goals as goal
 
 pub returns-in-Ok : goal.returns-in-Ok

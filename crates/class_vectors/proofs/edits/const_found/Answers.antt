@@ -1,3 +1,4 @@
+-- Answers of `const_found`: what its calls ask for, and what it promises.
 use Rattle.std.proofs.Common.{◌≡◌, ◌∙◌, List, [], true, rules, sym, subst}
 use Rattle.code_edit.specs.declared.act.Act.{Act}
 use Rattle.code_edit.specs.Passes.{IsReachEdits}

@@ -1,3 +1,4 @@
+-- Answers of `put_exceptions`: what its calls ask for, and what it promises.
 use Rattle.std.proofs.Common.{length}
 use Rattle.class_model.specs.CanonicalClass.{class_index}
 use Rattle.class_write.proofs.Counted.{indices_short}

@@ -1,3 +1,4 @@
+-- Answers of `put_interfaces`: what its calls ask for, and what it promises.
 use Rattle.std.proofs.lemmas.Result.{IfOk-equal}
 use Rattle.class_model.specs.CanonicalClass.{class_index}
 use Rattle.class_write.proofs.FileTexts.{indices_joined}

@@ -1,3 +1,4 @@
+-- Answers of `line_table`: what its calls ask for, and what it promises.
 use Rattle.class_write.proofs.CodeLengths.{table_short}
 use Rattle.class_write.proofs.code.line_table.Goals as goal
 

@@ -1,3 +1,4 @@
+-- Answers of `code_contents`: what its calls ask for, and what it promises.
 use Rattle.std.proofs.Common.{rules, ◌≡◌, ℕ, ◌<◌, ◌^◌, List, [], ◌++◌, length, None, arith, sym, ap, subst, ◌∙◌}
 use Rattle.std.specs.Prelude.{All}
 use Rattle.class_model.specs.CanonicalCode.{places}

@@ -1,3 +1,4 @@
+-- Answers of `frames_are_short`: what its calls ask for, and what it promises.
 use Rattle.std.proofs.Common.{rules, ◌<◌, ◌^◌}
 use Rattle.class_write.proofs.CodeLengths.{short_frames}
 use Rattle.class_write.proofs.contents.frames_are_short.Goals as goal

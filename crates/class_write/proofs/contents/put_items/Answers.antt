@@ -1,3 +1,4 @@
+-- Answers of `put_items`: what its calls ask for, and what it promises.
 use Rattle.std.proofs.Common.{ℕ, ◌<◌, ◌^◌, List, sym, ap, subst, ◌∙◌}
 use Rattle.std.specs.Prelude.{All}
 use Rattle.class_model.specs.CanonicalCode.{places}

@@ -1,3 +1,4 @@
+-- Answers of `units_index`: what its calls ask for, and what it promises.
 use Rattle.std.proofs.Common.{arith}
 use Rattle.class_model.specs.declared.constant.PoolConstant.TheVariants as constant
 use Rattle.class_write.proofs.Places.{index_within}

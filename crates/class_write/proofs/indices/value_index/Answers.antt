@@ -1,3 +1,4 @@
+-- Answers of `value_index`: what its calls ask for, and what it promises.
 use Rattle.std.proofs.Common.{arith}
 use Rattle.class_write.proofs.Places.{value_within}
 use Rattle.class_write.proofs.indices.value_index.Goals as goal

@@ -1,3 +1,4 @@
+-- Answers of `value_place`: what its calls ask for, and what it promises.
 use Rattle.std.proofs.Common.{ℤ, rules, ap, ◌∙◌}
 use Rattle.std.specs.Int.{w32, w64}
 use Rattle.std.specs.Int.RustNames.{FitsSigned}

@@ -1,3 +1,4 @@
+-- Answers of `canonical_spells_the_class`: what its calls ask for, and what it promises.
 use Rattle.class_write.proofs.SpelledFile.{layout_spells}
 use Rattle.class_write.proofs.SpelledExample.{some_writable}
 use Rattle.class_write.proofs.SpellingLaw.{written_spells, written_read, read_rewritten}

@@ -1,3 +1,4 @@
+-- Answers of `check_code`: what its calls ask for, and what it promises.
 use Rattle.std.proofs.Common.{◌≡◌, List, [], length, None, ap, ◌∙◌}
 use Rattle.class_model.specs.declared.code.Ins.{Ins}
 use Rattle.class_model.specs.CanonicalClass.{line_rows}

@@ -1,3 +1,4 @@
+-- Answers of `place_code`: what its calls ask for, and what it promises.
 use Rattle.std.proofs.Common.{ℕ, List, [], ◌∷◌, ◌++◌, length, ap, ◌∙◌, arith}
 use Rattle.std.proofs.lemmas.Result.{err_from_is_err_and}
 use Rattle.code_write.specs.declared.encoding.Coded.{Coded}

@@ -1,3 +1,4 @@
+-- Answers of `add_code`: what its calls ask for, and what it promises.
 use Rattle.std.proofs.Common.{[], None, codes}
 use Rattle.std.specs.List.{flat_map}
 use Rattle.std.proofs.lemmas.Result.{IfOk-equal}

@@ -1,3 +1,4 @@
+-- Answers of `add_frames`: what its calls ask for, and what it promises.
 use Rattle.std.proofs.Common.{◌+◌, ◌<◌, ◌≤◌, List, length, ◌∙◌, ap, sym, arith}
 use Rattle.indexmap.specs.IndexSet.{insert_all}
 use Rattle.class_model.specs.declared.constant.PoolConstant.{PoolConstant}

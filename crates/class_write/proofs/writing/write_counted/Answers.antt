@@ -1,3 +1,4 @@
+-- Answers of `write_counted`: what its calls ask for, and what it promises.
 use Rattle.std.proofs.Common.{◌≡◌, List, ◌++◌, Ok, sym, ap, subst, ◌∙◌}
 use Rattle.std.proofs.lemmas.Result.{err_from_is_err_and}
 use Rattle.std.proofs.lemmas.List.Elements.{All-from_recursion, recursion_from_All}

@@ -1,3 +1,4 @@
+-- Answers of `all_decoded`: what its calls ask for, and what it promises.
 use Rattle.std.proofs.Common.{◌≡◌, ℤ, ℕ, List, Ok, Result, sym, ap, subst, ◌∙◌}
 use Rattle.std.proofs.lemmas.Result.{err_from_is_err_and}
 use Rattle.jv_base.specs.Outcome.{FaultIs}

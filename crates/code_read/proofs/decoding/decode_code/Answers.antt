@@ -1,3 +1,4 @@
+-- Answers of `decode_code`: what its calls ask for, and what it promises.
 use Rattle.std.proofs.Common.{Result, subst, arith}
 use Rattle.jv_base.specs.Outcome.{IsDue}
 use Rattle.jv_base.proofs.Due.{due_found, due_only, due_fault}

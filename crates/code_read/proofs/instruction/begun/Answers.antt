@@ -1,3 +1,4 @@
+-- Answers of `begun`: what its calls ask for, and what it promises.
 use Rattle.std.proofs.Common.{rules, ◌≡◌, ◌≤◌, true, false, eqb, ◌||◌, Result, sym, ap, subst, ◌∙◌}
 use Rattle.std.specs.Prelude.{is_some}
 use Rattle.format_reading.specs.Reader.{ReadsOr, FormatReader, onwards}

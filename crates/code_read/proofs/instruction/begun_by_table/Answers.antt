@@ -1,3 +1,4 @@
+-- Answers of `begun_by_table`: what its calls ask for, and what it promises.
 use Rattle.std.proofs.Common.{Result, sym, subst, ◌∙◌}
 use Rattle.format_reading.specs.Reader.{ReadsOr, FormatReader, onwards}
 use Rattle.format_reading.specs.declared.fault.FormatKind.{FormatKind}

@@ -1,3 +1,4 @@
+-- Answers of `lookup_matches`: what its calls ask for, and what it promises.
 use Rattle.std.proofs.lemmas.Result.{err_from_is_err_and}
 use Rattle.code_read.proofs.Loops.{lookup_done, lookup_stops}
 use Rattle.code_read.proofs.instruction.lookup_matches.Goals as goal

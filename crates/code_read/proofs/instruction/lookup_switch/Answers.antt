@@ -1,3 +1,4 @@
+-- Answers of `lookup_switch`: what its calls ask for, and what it promises.
 use Rattle.std.proofs.Common.{rules, ◌≡◌, Ok, Result, ap, sym, subst, ◌∙◌}
 use Rattle.jv_base.specs.Place.{Place}
 use Rattle.format_reading.specs.Reader.{ReadsOr, bytes, u4, or_cut}

@@ -1,3 +1,4 @@
+-- Answers of `matches`: what its calls ask for, and what it promises.
 use Rattle.std.proofs.Common.{◌≡◌, ◌++◌, ◌∷◌, [], None, ap}
 use Rattle.std.proofs.lemmas.Result.{err_from_is_err_and}
 use Rattle.code_read.specs.bodies.Fault.{with_wrong}

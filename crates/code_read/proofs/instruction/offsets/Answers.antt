@@ -1,3 +1,4 @@
+-- Answers of `offsets`: what its calls ask for, and what it promises.
 use Rattle.std.proofs.Common.{◌≡◌, ◌++◌, ◌∷◌, [], ap}
 use Rattle.std.proofs.lemmas.Result.{err_from_is_err_and}
 use Rattle.format_reading.specs.Reader.{u4, many}

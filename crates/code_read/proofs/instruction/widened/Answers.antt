@@ -1,3 +1,4 @@
+-- Answers of `widened`: what its calls ask for, and what it promises.
 use Rattle.std.proofs.Common.{rules, ◌≡◌, false, eqb, Result, sym, subst, ◌∙◌}
 use Rattle.format_reading.specs.Reader.{ReadsOr, FormatReader, onwards}
 use Rattle.format_reading.specs.declared.fault.FormatKind.{FormatKind}

@@ -1,3 +1,4 @@
+-- Answers of `placed_at`: what its calls ask for, and what it promises.
 use Rattle.std.proofs.Common.{◌≡◌, Ok, Err, sym, ap, ◌∙◌}
 use Rattle.format_reading.specs.Fault.{cut}
 use Rattle.format_reading.specs.Reader.{u1, or_cut, onwards}

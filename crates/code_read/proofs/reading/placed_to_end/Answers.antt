@@ -1,3 +1,4 @@
+-- Answers of `placed_to_end`: what its calls ask for, and what it promises.
 use Rattle.std.proofs.Common.{◌≡◌, ◌++◌, ◌∷◌, ◌-◌, [], arith, inl, inr, sym, ◌∙◌}
 use Rattle.std.proofs.lemmas.Result.{err_from_is_err_and}
 use Rattle.std.proofs.lemmas.List.{length-append}

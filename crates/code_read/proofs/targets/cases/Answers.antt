@@ -1,3 +1,4 @@
+-- Answers of `cases`: what its calls ask for, and what it promises.
 use Rattle.std.proofs.Common.{◌≡◌, ◌++◌, ◌∷◌, [], sym}
 use Rattle.code_read.specs.Targets.{collected, case_aimed}
 use Rattle.code_read.specs.bodies.Targets.{aim_in}

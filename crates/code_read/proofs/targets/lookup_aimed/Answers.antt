@@ -1,3 +1,4 @@
+-- Answers of `lookup_aimed`: what its calls ask for, and what it promises.
 use Rattle.std.proofs.Common.{Ok, sym}
 use Rattle.std.proofs.lemmas.Result.{err_from_is_err_and}
 use Rattle.class_model.specs.declared.op.Op.TheVariants as op

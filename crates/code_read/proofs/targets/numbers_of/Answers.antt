@@ -1,3 +1,4 @@
+-- Answers of `numbers_of`: what its calls ask for, and what it promises.
 use Rattle.std.proofs.Common.{◌≡◌, subst}
 use Rattle.code_read.specs.declared.unaimed.Placed.{Placed}
 use Rattle.code_read.specs.bodies.Targets.{found, noted}

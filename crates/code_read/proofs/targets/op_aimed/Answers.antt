@@ -1,3 +1,4 @@
+-- Answers of `op_aimed`: what its calls ask for, and what it promises.
 use Rattle.std.proofs.Common.{ℕ, List, subst}
 use Rattle.jv_base.specs.Outcome.{IsDue}
 use Rattle.code_read.specs.declared.unaimed.Match.{Match}

@@ -1,3 +1,4 @@
+-- Answers of `table_aimed`: what its calls ask for, and what it promises.
 use Rattle.std.proofs.Common.{Ok, sym}
 use Rattle.std.proofs.lemmas.Result.{err_from_is_err_and}
 use Rattle.std.specs.Int.{w32, cast_signed}

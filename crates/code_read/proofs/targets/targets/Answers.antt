@@ -1,3 +1,4 @@
+-- Answers of `targets`: what its calls ask for, and what it promises.
 use Rattle.std.proofs.Common.{◌≡◌, ◌++◌, ◌∷◌, [], sym}
 use Rattle.class_model.specs.InstructionMeaning.{aimed}
 use Rattle.code_read.specs.Targets.{collected}

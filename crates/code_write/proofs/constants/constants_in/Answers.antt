@@ -1,3 +1,4 @@
+-- Answers of `constants_in`: what its calls ask for, and what it promises.
 use Rattle.std.proofs.Common.{◌≡◌, ◌++◌, ◌∷◌, [], ◌-◌, length, ap, ◌∙◌, arith}
 use Rattle.class_model.specs.declared.constant.PoolConstant.{PoolConstant}
 use Rattle.code_write.specs.Constants.{first_constants, said_at}

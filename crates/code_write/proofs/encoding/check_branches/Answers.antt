@@ -1,3 +1,4 @@
+-- Answers of `check_branches`: what its calls ask for, and what it promises.
 use Rattle.std.proofs.Common.{◌≡◌, Err, sym, subst}
 use Rattle.std.proofs.lemmas.Result.{err_from_is_err_and}
 use Rattle.class_model.specs.declared.code.Ins.{Ins}

@@ -1,3 +1,4 @@
+-- Answers of `encode_with`: what its calls ask for, and what it promises.
 use Rattle.std.proofs.Common.{◌≡◌, ◌≤◌, List, length, Ok, ap, subst, arith}
 use Rattle.class_model.specs.declared.code.Ins.{Ins}
 use Rattle.code_write.specs.Coded.{placed}

@@ -1,3 +1,4 @@
+-- Answers of `computed_codes`: what its calls ask for, and what it promises.
 use Rattle.code_write.proofs.ComputedCodes as computed
 use Rattle.code_write.proofs.examples.computed_codes.Goals as goal
 

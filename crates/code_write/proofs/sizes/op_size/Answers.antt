@@ -1,3 +1,4 @@
+-- Answers of `op_size`: what its calls ask for, and what it promises.
 use Rattle.std.proofs.Common.{sym, ◌∙◌}
 use Rattle.code_write.proofs.Lengths.{table_size, lookup_size}
 use Rattle.code_write.proofs.sizes.op_size.Goals as goal

@@ -1,3 +1,4 @@
+-- Answers of `places`: what its calls ask for, and what it promises.
 use Rattle.std.proofs.Common.{◌≡◌, ◌≤◌, ◌<◌, ◌^◌, sym, ◌∙◌, arith}
 use Rattle.class_model.specs.CanonicalCode.{places}
 use Rattle.code_write.proofs.Ends.{end_from, end_done, code_end, places_done}

@@ -1,3 +1,4 @@
+-- Answers of `count_byte`: what its calls ask for, and what it promises.
 use Rattle.std.proofs.Common.{sym, ◌∙◌}
 use Rattle.std.specs.Int.{w8}
 use Rattle.std.proofs.Math.Facts.{Fits-of_lt}

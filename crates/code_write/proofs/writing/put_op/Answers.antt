@@ -1,3 +1,4 @@
+-- Answers of `put_op`: what its calls ask for, and what it promises.
 use Rattle.std.proofs.Common.{◌∙◌}
 use Rattle.std.specs.Prelude.{slice_index}
 use Rattle.code_write.proofs.Lengths.{few_cases}

@@ -1,3 +1,4 @@
+-- Answers of `put_table_switch`: what its calls ask for, and what it promises.
 use Rattle.std.proofs.Common.{◌≡◌, ℕ, List, [], ◌++◌, ◌∷◌, append_assoc, map, replicate, length, subst, of_z, to_z}
 use Rattle.std.proofs.lemmas.Int.{to_z-of_z}
 use Rattle.std.specs.Prelude.{slice_index, pos, ◌+ℤ◌, ◌-ℤ◌}

@@ -1,3 +1,4 @@
+-- Answers of `run_command`: what its calls ask for, and what it promises.
 use Rattle.std.proofs.Common.{subst}
 use Rattle.command_frame.specs.Output.{SaysText, output}
 use Rattle.command_frame.proofs.Endings.{answers_memory, ended_before, finished}

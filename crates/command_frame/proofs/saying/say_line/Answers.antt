@@ -1,3 +1,4 @@
+-- Answers of `say_line`: what its calls ask for, and what it promises.
 use Rattle.std.proofs.Common.{refl}
 use Rattle.command_frame.proofs.saying.say_line.Goals as goal
 

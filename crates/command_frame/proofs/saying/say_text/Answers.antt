@@ -1,3 +1,4 @@
+-- Answers of `say_text`: what its calls ask for, and what it promises.
 use Rattle.std.proofs.Common.{Err, subst, inl, inr}
 use Rattle.tree_io.specs.declared.faults.PutFault.{PutFault}
 use Rattle.command_frame.specs.Output.{Hands, output}

@@ -1,3 +1,4 @@
+-- Answers of `config_in`: what its calls ask for, and what it promises.
 use Rattle.command_steps.proofs.OneConfig.{config_found}
 use Rattle.command_steps.proofs.config.config_in.Goals as goal
 

@@ -1,3 +1,4 @@
+-- Answers of `find_earlier`: what its calls ask for, and what it promises.
 use Rattle.command_steps.proofs.Earlier.{found_applied, none_applied}
 use Rattle.command_steps.proofs.texts.find_earlier.Goals as goal
 

@@ -1,3 +1,4 @@
+-- Answers of `command_line`: what its calls ask for, and what it promises.
 use Rattle.std.proofs.Common.{true, ap, ap₂, ◌∙◌}
 use Rattle.clap.specs.Simple.{app_of_fields, on_top, with_rule}
 use Rattle.command_words.proofs.arguments.command_line.Goals as goal

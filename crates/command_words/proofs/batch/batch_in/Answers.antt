@@ -1,3 +1,4 @@
+-- Answers of `batch_in`: what its calls ask for, and what it promises.
 use Rattle.std.proofs.Common.{codes, map, sym, ap, ◌∙◌}
 use Rattle.std.specs.Option.{option_map}
 use Rattle.clap.specs.Matches.{found_of}

@@ -1,3 +1,4 @@
+-- Answers of `read_batch`: what its calls ask for, and what it promises.
 use Rattle.std.proofs.Common.{map, ap, ◌∙◌}
 use Rattle.command_words.proofs.ClapLaws.{answers, refused_batch, taken_batch}
 use Rattle.command_words.proofs.batch.read_batch.Goals as goal

@@ -1,3 +1,4 @@
+-- Answers of `cut_last`: what its calls ask for, and what it promises.
 use Rattle.command_words.proofs.LastCut.{last_split}
 use Rattle.command_words.proofs.entries.cut_last.Goals as goal
 

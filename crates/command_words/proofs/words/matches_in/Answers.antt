@@ -1,3 +1,4 @@
+-- Answers of `matches_in`: what its calls ask for, and what it promises.
 use Rattle.std.proofs.Common.{map}
 use Rattle.clap.specs.Simple.{app_of}
 use Rattle.command_words.proofs.ClapLaws.{reads_err, reads_ok, refused_reads}

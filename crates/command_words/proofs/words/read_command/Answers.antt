@@ -1,3 +1,4 @@
+-- Answers of `read_command`: what its calls ask for, and what it promises.
 use Rattle.std.proofs.Common.{map, ap, ◌∙◌}
 use Rattle.command_words.proofs.ClapLaws.{answers, refused_said, taken_said}
 use Rattle.command_words.proofs.words.read_command.Goals as goal

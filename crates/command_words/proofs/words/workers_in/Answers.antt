@@ -1,3 +1,4 @@
+-- Answers of `workers_in`: what its calls ask for, and what it promises.
 use Rattle.std.proofs.Common.{codes, ◌∙◌}
 use Rattle.std.specs.Str.Parse.{ExplainsUnsignedError, HasUnsignedDigitsIfOk, ParsesUnsigned}
 use Rattle.clap.specs.Matches.{found_of}

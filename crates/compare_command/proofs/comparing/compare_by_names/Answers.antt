@@ -1,3 +1,4 @@
+-- Answers of `compare_by_names`: what its calls ask for, and what it promises.
 use Rattle.std.proofs.Common.{false, sym, ◌∙◌}
 use Rattle.compare_command.proofs.Saying.{said_by, shows_nothing}
 use Rattle.compare_command.proofs.comparing.compare_by_names.Goals as goal

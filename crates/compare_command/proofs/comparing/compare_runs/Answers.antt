@@ -1,3 +1,4 @@
+-- Answers of `compare_runs`: what its calls ask for, and what it promises.
 use Rattle.std.proofs.Common.{subst}
 use Rattle.command_frame.specs.Steps.{Makes}
 use Rattle.mapping_file.specs.declared.mapping.Mapping.{Mapping}

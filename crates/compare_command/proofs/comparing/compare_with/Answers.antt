@@ -1,3 +1,4 @@
+-- Answers of `compare_with`: what its calls ask for, and what it promises.
 use Rattle.compare_command.proofs.Saying.{said_by, shows}
 use Rattle.compare_command.proofs.comparing.compare_with.Goals as goal
 

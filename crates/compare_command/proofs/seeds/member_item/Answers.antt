@@ -1,3 +1,4 @@
+-- Answers of `member_item`: what its calls ask for, and what it promises.
 use Rattle.std.proofs.Common.{arith}
 use Rattle.compare_command.proofs.Items.{member_below}
 use Rattle.compare_command.proofs.seeds.member_item.Goals as goal

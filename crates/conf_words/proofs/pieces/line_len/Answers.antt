@@ -1,3 +1,4 @@
+-- Answers of `line_len`: what its calls ask for, and what it promises.
 use Rattle.conf_words.specs.Pieces.{ends_line}
 use Rattle.conf_words.proofs.Cutting.{cut_at, found_none, ascii_line_end}
 use Rattle.conf_words.proofs.pieces.line_len.Goals as goal

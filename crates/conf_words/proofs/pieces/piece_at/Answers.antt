@@ -1,3 +1,4 @@
+-- Answers of `piece_at`: what its calls ask for, and what it promises.
 use Rattle.std.proofs.Common.{sym, ◌∙◌, refl}
 use Rattle.conf_words.specs.declared.kinds.Kind.TheVariants.{LineEnd, Blank, Mark}
 use Rattle.conf_words.proofs.Cutting.{cut_kind}

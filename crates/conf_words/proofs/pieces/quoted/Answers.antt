@@ -1,3 +1,4 @@
+-- Answers of `quoted`: what its calls ask for, and what it promises.
 use Rattle.std.proofs.Common.{refl, sym, ◌∙◌, drop}
 use Rattle.std.proofs.lemmas.Str.{IsUtf8-drop}
 use Rattle.conf_words.specs.declared.kinds.Kind.TheVariants.{Quote}

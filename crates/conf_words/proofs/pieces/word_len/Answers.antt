@@ -1,3 +1,4 @@
+-- Answers of `word_len`: what its calls ask for, and what it promises.
 use Rattle.conf_words.specs.Pieces.{ends_word}
 use Rattle.conf_words.proofs.Cutting.{cut_at, found_none, ascii_end}
 use Rattle.conf_words.proofs.pieces.word_len.Goals as goal

@@ -1,3 +1,4 @@
+-- Answers of `facts_of_slot`: what its calls ask for, and what it promises.
 use Rattle.std.proofs.Common.{ap, map, sym, subst, ◌∙◌}
 use Rattle.code_edit.specs.Facts.{IsLargest}
 use Rattle.const_facts.specs.Order.{int_of}

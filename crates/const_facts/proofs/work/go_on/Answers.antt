@@ -1,3 +1,4 @@
+-- Answers of `go_on`: what its calls ask for, and what it promises.
 use Rattle.std.proofs.Common.{sym, subst, length, ◌<◌, ◌∙◌, ◌+◌}
 use Rattle.const_facts.specs.Worklist.{Due}
 use Rattle.const_facts.proofs.Taking.{next_there}

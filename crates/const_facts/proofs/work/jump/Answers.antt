@@ -1,3 +1,4 @@
+-- Answers of `jump`: what its calls ask for, and what it promises.
 use Rattle.std.proofs.Common.{◌<◌, ℕ, [], ◌∷◌, length, subst, sym, ◌∙◌, ⊎_elim, refl}
 use Rattle.std.specs.List.{All}
 use Rattle.std.proofs.lemmas.List.Elements.{All-cons, All-head, All-tail}

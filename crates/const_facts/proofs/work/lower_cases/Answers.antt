@@ -1,3 +1,4 @@
+-- Answers of `lower_cases`: what its calls ask for, and what it promises.
 use Rattle.std.proofs.Common.{◌<◌, length, subst, take, take_all, arith}
 use Rattle.std.specs.List.{All}
 use Rattle.std.proofs.lemmas.List.Elements.{All-get_or, All-more, All-weaker}

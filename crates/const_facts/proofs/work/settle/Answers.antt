@@ -1,3 +1,4 @@
+-- Answers of `settle`: what its calls ask for, and what it promises.
 use Rattle.std.proofs.Common.{refl}
 use Rattle.const_facts.proofs.Settling.{open_after}
 use Rattle.const_facts.proofs.work.settle.Goals as goal

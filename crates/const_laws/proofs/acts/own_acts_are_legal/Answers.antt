@@ -1,3 +1,4 @@
+-- Answers of `own_acts_are_legal`: what its calls ask for, and what it promises.
 use Rattle.const_laws.proofs.Once.{own_acts_once}
 use Rattle.const_laws.proofs.Own.{own_acts_legal}
 use Rattle.const_laws.proofs.acts.own_acts_are_legal.Goals as goal

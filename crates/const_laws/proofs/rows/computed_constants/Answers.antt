@@ -1,3 +1,4 @@
+-- Answers of `computed_constants`: what its calls ask for, and what it promises.
 use Rattle.std.proofs.Common.{arith, refl}
 use Rattle.const_laws.proofs.rows.computed_constants.Goals as goal
 

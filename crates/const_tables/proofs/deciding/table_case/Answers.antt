@@ -1,3 +1,4 @@
+-- Answers of `table_case`: what its calls ask for, and what it promises.
 use Rattle.std.proofs.Common.{◌∙◌, sym, rules}
 use Rattle.std.proofs.lemmas.Int.{to_z-of_z}
 use mir.Syntax.{w32}

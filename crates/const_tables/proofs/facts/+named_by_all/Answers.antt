@@ -1,3 +1,4 @@
+-- Answers of `+named_by_all`: what its calls ask for, and what it promises.
 use Rattle.std.proofs.lemmas.Result.{IfOk-weaker}
 use Rattle.std.proofs.Common.{List, subst}
 use Rattle.const_tables.specs.declared.facts.Stretch.{Stretch}

@@ -1,3 +1,4 @@
+-- Answers of `first_in`: what its calls ask for, and what it promises.
 use Rattle.std.proofs.Common.{◌∙◌}
 use Rattle.const_tables.proofs.Splitting.{split_tells}
 use Rattle.const_tables.proofs.facts.first_in.Goals as goal

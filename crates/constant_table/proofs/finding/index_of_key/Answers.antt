@@ -1,3 +1,4 @@
+-- Answers of `index_of_key`: what its calls ask for, and what it promises.
 use Rattle.std.proofs.Common.{ap, ◌∙◌}
 use Rattle.constant_table.specs.bodies.Keys.{index_in}
 use Rattle.constant_table.proofs.Told.{index_told}

@@ -1,3 +1,4 @@
+-- Answers of `told_index`: what its calls ask for, and what it promises.
 use Rattle.std.proofs.Common.{◌≡◌, ◌≤◌, length, sym, arith}
 use Rattle.std.specs.List.{position_or_len}
 use Rattle.std.proofs.lemmas.List.{length-map}

@@ -1,3 +1,4 @@
+-- Answers of `add_key`: what its calls ask for, and what it promises.
 use Rattle.std.proofs.Common.{List, cond, sym, ap, ◌∙◌}
 use Rattle.std.specs.Prelude.{is_ok}
 use Rattle.constant_table.specs.declared.key.Key.{Key}

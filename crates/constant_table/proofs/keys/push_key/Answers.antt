@@ -1,3 +1,4 @@
+-- Answers of `push_key`: what its calls ask for, and what it promises.
 use Rattle.std.proofs.Common.{List, sym, subst, ◌∙◌}
 use Rattle.constant_table.specs.declared.key.Key.{Key}
 use Rattle.constant_table.specs.bodies.Keys.{IsIndexed}

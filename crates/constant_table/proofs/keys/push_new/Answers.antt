@@ -1,3 +1,4 @@
+-- Answers of `push_new`: what its calls ask for, and what it promises.
 use Rattle.std.proofs.Common.{rules, ◌≡◌, ◌+◌, List, length, sym, subst, ◌∙◌}
 use Rattle.constant_table.specs.declared.key.Key.{Key}
 use Rattle.constant_table.specs.bodies.Keys.{IsIndexed}

@@ -1,3 +1,4 @@
+-- Answers of `check_units`: what its calls ask for, and what it promises.
 use Rattle.std.proofs.Common.{◌≤◌, length, rules}
 use Rattle.class_model.specs.declared.limit.WriteLimit.TheVariants.{TextTooLong}
 use Rattle.constant_table.proofs.Short.{short_fits}

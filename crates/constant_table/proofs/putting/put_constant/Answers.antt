@@ -1,3 +1,4 @@
+-- Answers of `put_constant`: what its calls ask for, and what it promises.
 use Rattle.std.proofs.Common.{◌∷◌, [], ◌++◌, cond, ◌∙◌}
 use Rattle.std.specs.Prelude.{is_ok}
 use Rattle.constant_table.proofs.Told.{told_grown, within_grown}

@@ -1,3 +1,4 @@
+-- Answers of `put_field`: what its calls ask for, and what it promises.
 use Rattle.std.proofs.Common.{[], ◌∷◌, ◌++◌}
 use Rattle.jv_base.specs.Utf16.{units_of}
 use Rattle.class_model.specs.declared.constant.PoolConstant.TheVariants as constant

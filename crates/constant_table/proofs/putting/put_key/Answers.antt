@@ -1,3 +1,4 @@
+-- Answers of `put_key`: what its calls ask for, and what it promises.
 use Rattle.constant_table.proofs.Told.{on_added}
 use Rattle.constant_table.proofs.putting.put_key.Goals as goal
 

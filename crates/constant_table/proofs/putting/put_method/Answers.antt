@@ -1,3 +1,4 @@
+-- Answers of `put_method`: what its calls ask for, and what it promises.
 use Rattle.std.proofs.Common.{[], ◌∷◌, ◌++◌, ap, ◌∙◌}
 use Rattle.jv_base.specs.Utf16.{units_of}
 use Rattle.class_model.specs.CanonicalPool as canonical

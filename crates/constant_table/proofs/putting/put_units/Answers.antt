@@ -1,3 +1,4 @@
+-- Answers of `put_units`: what its calls ask for, and what it promises.
 use Rattle.std.proofs.Common.{[], ◌∷◌}
 use Rattle.class_model.specs.declared.constant.PoolConstant.TheVariants as constant
 use Rattle.constant_table.specs.declared.key.Key.TheVariants as key

@@ -1,3 +1,4 @@
+-- Answers of `keep`: what its calls ask for, and what it promises.
 use Rattle.constant_table.proofs.Numbering.{grows_kept, if_number}
 use Rattle.constant_table.proofs.texts.keep.Goals as goal
 

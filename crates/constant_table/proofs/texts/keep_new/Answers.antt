@@ -1,3 +1,4 @@
+-- Answers of `keep_new`: what its calls ask for, and what it promises.
 use Rattle.std.proofs.Common.{ℕ, List, sym, subst}
 use Rattle.jv_base.specs.Utf16.{units_of}
 use Rattle.constant_table.specs.bodies.Texts.{HasNumber, AreNumbers}

@@ -1,3 +1,4 @@
+-- Answers of `keep_text`: what its calls ask for, and what it promises.
 use Rattle.std.proofs.Common.{sym, ◌∙◌}
 use Rattle.jv_base.specs.Utf16.{units_of}
 use Rattle.constant_table.proofs.Numbering.{number_told, text_there}

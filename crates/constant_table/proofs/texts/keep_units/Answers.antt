@@ -1,3 +1,4 @@
+-- Answers of `keep_units`: what its calls ask for, and what it promises.
 use Rattle.constant_table.proofs.Numbering.{number_is}
 use Rattle.constant_table.proofs.texts.keep_units.Goals as goal
 

@@ -1,3 +1,4 @@
+-- Answers of `put_number`: what its calls ask for, and what it promises.
 use Rattle.constant_table.proofs.Numbering.{number_found}
 use Rattle.constant_table.proofs.texts.put_number.Goals as goal
 

@@ -1,3 +1,4 @@
+-- Answers of `lives_after_cuts`: what its calls ask for, and what it promises.
 use Rattle.std.proofs.Common.{◌≡◌, ℕ, List, Bool, ◌∙◌, ap}
 use Rattle.edit_check.specs.StepTables.{cuts_of}
 use Rattle.edit_check.specs.Uncut.{uncut}

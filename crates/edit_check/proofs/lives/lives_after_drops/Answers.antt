@@ -1,3 +1,4 @@
+-- Answers of `lives_after_drops`: what its calls ask for, and what it promises.
 use Rattle.edit_check.proofs.Living.{drops_tell}
 use Rattle.edit_check.proofs.lives.lives_after_drops.Goals as goal
 

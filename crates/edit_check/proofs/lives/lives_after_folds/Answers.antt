@@ -1,3 +1,4 @@
+-- Answers of `lives_after_folds`: what its calls ask for, and what it promises.
 use Rattle.std.proofs.Common.{ℕ, List, Option, ◌∙◌, ap}
 use Rattle.const_tables.specs.Folding.{folds_of, unfolded}
 use Rattle.edit_check.proofs.Living.{folds_tell}

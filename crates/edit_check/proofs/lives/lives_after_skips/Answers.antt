@@ -1,3 +1,4 @@
+-- Answers of `lives_after_skips`: what its calls ask for, and what it promises.
 use Rattle.std.proofs.Common.{ℕ, List, Bool, ◌∙◌, ap}
 use Rattle.edit_check.proofs.Living.{skips_tell}
 use Rattle.edit_tables.specs.Marks.{none, with_skips}

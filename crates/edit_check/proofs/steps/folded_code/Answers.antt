@@ -1,3 +1,4 @@
+-- Answers of `folded_code`: what its calls ask for, and what it promises.
 use Rattle.edit_check.proofs.Stepping.{const_few}
 use Rattle.edit_check.proofs.steps.folded_code.Goals as goal
 

@@ -1,3 +1,4 @@
+-- Answers of `jumped_code`: what its calls ask for, and what it promises.
 use Rattle.edit_check.proofs.Stepping.{jumps_few}
 use Rattle.edit_check.proofs.steps.jumped_code.Goals as goal
 

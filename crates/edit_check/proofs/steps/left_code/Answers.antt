@@ -1,3 +1,4 @@
+-- Answers of `left_code`: what its calls ask for, and what it promises.
 use Rattle.std.proofs.Common.{subst}
 use Rattle.edit_check.specs.StepTables.{IsReachTables}
 use Rattle.edit_check.proofs.Stepping.{reach_few}

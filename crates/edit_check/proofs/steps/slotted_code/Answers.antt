@@ -1,3 +1,4 @@
+-- Answers of `slotted_code`: what its calls ask for, and what it promises.
 use Rattle.edit_check.proofs.Stepping.{slots_few}
 use Rattle.edit_check.proofs.steps.slotted_code.Goals as goal
 

@@ -1,3 +1,4 @@
+-- Answers of `law_local`: what its calls ask for, and what it promises.
 use Rattle.std.proofs.Common.{refl}
 use Rattle.jvm_model.proofs.Codes.{pass_same}
 use Rattle.edit_laws.specs.Replaced.{replaced}

@@ -1,3 +1,4 @@
+-- Answers of `edits_then_names_keep_same`: what its calls ask for, and what it promises.
 use Rattle.jvm_model.specs.Same.{own_names}
 use Rattle.jvm_model.proofs.Compose.{same_trans}
 use Rattle.jvm_model.proofs.Side.{mapped_same}

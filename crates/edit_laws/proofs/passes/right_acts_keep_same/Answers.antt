@@ -1,3 +1,4 @@
+-- Answers of `right_acts_keep_same`: what its calls ask for, and what it promises.
 use Rattle.edit_premises.specs.Changes.{Changed, Together}
 use Rattle.edit_premises.proofs.Changes.{becomes_same, changed_premise}
 use Rattle.edit_laws.proofs.Acting.{acted_becomes}

@@ -1,3 +1,4 @@
+-- Answers of `computed_acts`: what its calls ask for, and what it promises.
 use Rattle.std.proofs.Common.{arith, refl}
 use Rattle.code_edit.specs.Reach.{led_to}
 use Rattle.class_model.specs.declared.op.Op.TheVariants as op

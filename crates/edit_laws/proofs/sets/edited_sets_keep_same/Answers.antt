@@ -1,3 +1,4 @@
+-- Answers of `edited_sets_keep_same`: what its calls ask for, and what it promises.
 use Rattle.std.proofs.Common.{inl, refl}
 use Rattle.edit_premises.specs.Steps.{IsAfter, IsEdited}
 use Rattle.edit_premises.proofs.Steps.{edited_same, step_same}

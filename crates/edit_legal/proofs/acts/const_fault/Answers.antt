@@ -1,3 +1,4 @@
+-- Answers of `const_fault`: what its calls ask for, and what it promises.
 use Rattle.std.proofs.Common.{◌<◌, length, sym, subst}
 use Rattle.class_model.specs.declared.code.Code.{Code}
 use Rattle.edit_legal.proofs.ConstFaults.{const_fault_is, none_noted}

@@ -1,3 +1,4 @@
+-- Answers of `jump_fault`: what its calls ask for, and what it promises.
 use Rattle.edit_legal.proofs.JumpFaults.{jump_fault_is}
 use Rattle.edit_legal.proofs.acts.jump_fault.Goals as goal
 

@@ -1,3 +1,4 @@
+-- Answers of `all_support`: what its calls ask for, and what it promises.
 use Rattle.std.proofs.Common.{◌≡◌, ◌∙◌, false, rules, sym}
 use Rattle.std.proofs.lemmas.List.Folds.{list_all_at}
 use Rattle.edit_legal.specs.Decidable.{supports}

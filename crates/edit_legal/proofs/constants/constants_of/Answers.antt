@@ -1,3 +1,4 @@
+-- Answers of `constants_of`: what its calls ask for, and what it promises.
 use Rattle.std.proofs.Common.{◌∙◌}
 use Rattle.edit_legal.proofs.Lengths.{unfolded_few}
 use Rattle.edit_legal.proofs.constants.constants_of.Goals as goal

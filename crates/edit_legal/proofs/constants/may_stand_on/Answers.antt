@@ -1,3 +1,4 @@
+-- Answers of `may_stand_on`: what its calls ask for, and what it promises.
 use Rattle.std.proofs.Common.{◌≡◌, ◌∙◌, ◌-◌, true, rules, sym, arith}
 use Rattle.edit_legal.specs.Decidable.{may_stand}
 use Rattle.edit_legal.proofs.Ranges.{stand_step}

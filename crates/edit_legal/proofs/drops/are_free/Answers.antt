@@ -1,3 +1,4 @@
+-- Answers of `are_free`: what its calls ask for, and what it promises.
 use Rattle.std.proofs.Common.{◌∙◌, sym, arith}
 use Rattle.edit_legal.proofs.Ranges.{free_step}
 use Rattle.edit_legal.proofs.drops.are_free.Goals as goal

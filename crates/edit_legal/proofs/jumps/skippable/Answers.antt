@@ -1,3 +1,4 @@
+-- Answers of `skippable`: what its calls ask for, and what it promises.
 use Rattle.std.proofs.Common.{◌∙◌, List, Bool, ap}
 use Rattle.std.proofs.lemmas.Result.{IfOk-weaker}
 use Rattle.edit_legal.specs.Movable.{skippable_by}

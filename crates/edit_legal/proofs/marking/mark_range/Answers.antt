@@ -1,3 +1,4 @@
+-- Answers of `mark_range`: what its calls ask for, and what it promises.
 use Rattle.std.proofs.Common.{◌∙◌, ◌+◌, ◌-◌, sym, ap, arith}
 use Rattle.edit_legal.specs.Dropped.{taking}
 use Rattle.edit_legal.proofs.Ranges.{taking_step}

@@ -1,3 +1,4 @@
+-- Answers of `chain_table`: what its calls ask for, and what it promises.
 use Rattle.std.proofs.Common.{◌∙◌, ap, arith}
 use Rattle.edit_passes.specs.Chains.{doubled}
 use Rattle.edit_passes.proofs.Walking.{next_table}

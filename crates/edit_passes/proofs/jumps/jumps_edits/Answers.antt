@@ -1,3 +1,4 @@
+-- Answers of `jumps_edits`: what its calls ask for, and what it promises.
 use Rattle.std.proofs.Common.{◌∙◌, ◌++◌}
 use Rattle.code_edit.specs.Passes.{aims_from, skips_from}
 use Rattle.edit_passes.specs.Chains.{ends_in}

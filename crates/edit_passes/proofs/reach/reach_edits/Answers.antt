@@ -1,3 +1,4 @@
+-- Answers of `reach_edits`: what its calls ask for, and what it promises.
 use Rattle.std.proofs.Common.{◌∙◌}
 use Rattle.edit_passes.proofs.Reaching.{found_few, reach_is}
 use Rattle.edit_passes.proofs.reach.reach_edits.Goals as goal

@@ -1,3 +1,4 @@
+-- Answers of `frames_are_read_back`: what its calls ask for, and what it promises.
 use Rattle.frame_read.proofs.BackFrames.{frames_read_back}
 use Rattle.frame_read.proofs.BackGood.{good_frames_read_back}
 use Rattle.frame_read.proofs.back.frames_are_read_back.Goals as goal

@@ -1,3 +1,4 @@
+-- Answers of `numbers_of`: what its calls ask for, and what it promises.
 use Rattle.std.specs.Prelude.{nat_eq}
 use Rattle.std.specs.List.{position_from}
 use Rattle.frame_read.specs.bodies.Numbers.{found}

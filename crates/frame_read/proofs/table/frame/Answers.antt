@@ -1,3 +1,4 @@
+-- Answers of `frame`: what its calls ask for, and what it promises.
 use Rattle.std.proofs.Common.{◌∙◌, ap, sym}
 use Rattle.std.specs.Prelude.{option_map}
 use Rattle.frame_read.specs.bodies.Rows.{row_of}

@@ -1,3 +1,4 @@
+-- Answers of `frames`: what its calls ask for, and what it promises.
 use Rattle.std.proofs.Common.{◌≡◌, ◌||◌, None, Some, Bool, sym, ap, ◌∙◌}
 use Rattle.std.proofs.lemmas.Result.{err_from_is_err_and}
 use Rattle.class_model.specs.ReadingFrames.{Before, read_frame}

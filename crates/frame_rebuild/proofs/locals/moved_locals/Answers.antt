@@ -1,3 +1,4 @@
+-- Answers of `moved_locals`: what its calls ask for, and what it promises.
 use Rattle.std.proofs.Common.{◌≡◌, List, ◌∷◌, ◌++◌}
 use Rattle.std.specs.Vec.Iter.{into_iter_items}
 use Rattle.class_model.specs.declared.frame.VType.{VType}

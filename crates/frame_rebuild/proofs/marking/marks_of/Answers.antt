@@ -1,3 +1,4 @@
+-- Answers of `marks_of`: what its calls ask for, and what it promises.
 use Rattle.std.proofs.Common.{◌≡◌, ◌<◌, ◌≤◌, ℕ, ◌+◌, ◌-◌, ◌∙◌, ap, length, arith}
 use Rattle.class_model.specs.FrameLists.{frame_numbered}
 use Rattle.code_edit.specs.Rewriting.{place}

@@ -1,3 +1,4 @@
+-- Answers of `frames_after`: what its calls ask for, and what it promises.
 use Rattle.std.proofs.Common.{ℕ, ◌≤◌, ◌<◌, ◌∙◌, sym, subst, rules, arith}
 use Rattle.std.specs.Prelude.{◌^◌}
 use Rattle.frame_rebuild.proofs.Telling.{frames_are, frames_fit}

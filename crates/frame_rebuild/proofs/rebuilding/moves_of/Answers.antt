@@ -1,3 +1,4 @@
+-- Answers of `moves_of`: what its calls ask for, and what it promises.
 use Rattle.std.proofs.Common.{List, Bool, ◌∙◌, ap}
 use Rattle.code_edit.specs.declared.act.Act.{Act}
 use Rattle.edit_tables.specs.Places.{counts_from}

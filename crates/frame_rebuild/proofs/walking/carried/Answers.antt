@@ -1,3 +1,4 @@
+-- Answers of `carried`: what its calls ask for, and what it promises.
 use Rattle.std.proofs.Common.{◌≡◌, ◌<◌, ℕ, ◌+◌, ◌++◌, [], ◌∷◌, ◌∙◌, List, Bool, cond, ap, sym, drop, length, arith}
 use Rattle.class_model.specs.FrameLists.{Built, frame_numbered}
 use Rattle.class_model.specs.declared.frame.FrameAt.{FrameAt}

@@ -1,3 +1,4 @@
+-- Answers of `same_class`: what its calls ask for, and what it promises.
 use Rattle.class_laws.proofs.Descriptors.{same_text}
 use Rattle.frame_write.proofs.comparing.same_class.Goals as goal
 

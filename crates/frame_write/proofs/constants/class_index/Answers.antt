@@ -1,3 +1,4 @@
+-- Answers of `class_index`: what its calls ask for, and what it promises.
 use Rattle.std.proofs.Common.{◌≤◌, length, arith}
 use Rattle.std.specs.List.{position_or_len}
 use Rattle.std.proofs.lemmas.List.Sums.{prefix_len-le-length}

@@ -1,3 +1,4 @@
+-- Answers of `agree`: what its calls ask for, and what it promises.
 use Rattle.std.proofs.Common.{◌≡◌, suc, ◌-◌, List, ap, sym, ◌∙◌, arith, drop, take}
 use Rattle.class_model.specs.declared.frame.VType.{VType}
 use Rattle.class_model.specs.CanonicalFrames.{same_types}

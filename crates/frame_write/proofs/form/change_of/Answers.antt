@@ -1,3 +1,4 @@
+-- Answers of `change_of`: what its calls ask for, and what it promises.
 use Rattle.std.proofs.Common.{◌≡◌, ◌-◌, ℕ, length, ap, sym, ◌∙◌, arith}
 use Rattle.class_model.specs.FrameLists.{frame_numbered}
 use Rattle.frame_write.specs.declared.form.Change.TheVariants as change

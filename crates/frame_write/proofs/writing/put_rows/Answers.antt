@@ -1,3 +1,4 @@
+-- Answers of `put_rows`: what its calls ask for, and what it promises.
 use Rattle.std.proofs.Common.{◌<◌, length, arith}
 use Rattle.class_model.specs.declared.frame.FrameAt.{FrameAt}
 use Rattle.class_model.specs.FrameLists.{no_frame, frame_numbered}

@@ -1,3 +1,4 @@
+-- Answers of `write_frames_with`: what its calls ask for, and what it promises.
 use Rattle.std.proofs.Common.{None, rules}
 use Rattle.class_laws.proofs.FrameRows.{rows_counted}
 use Rattle.frame_write.proofs.writing.write_frames_with.Goals as goal

@@ -1,3 +1,4 @@
+-- Answers of `front_of`: what its calls ask for, and what it promises.
 use Rattle.fresh_names.proofs.Fronts.{front_split}
 use Rattle.fresh_names.proofs.front.front_of.Goals as goal
 

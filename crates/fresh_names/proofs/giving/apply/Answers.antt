@@ -1,3 +1,4 @@
+-- Answers of `apply`: what its calls ask for, and what it promises.
 use Rattle.std.proofs.Common.{ap, sym, ◌∙◌}
 use Rattle.std.specs.Map.{lookup}
 use Rattle.fresh_names.specs.bodies.Giving.{first, stays_in, told_in, what_stays}

@@ -1,3 +1,4 @@
+-- Answers of `apply_all`: what its calls ask for, and what it promises.
 use Rattle.std.proofs.Common.{List, ◌∷◌, ◌++◌, [], sym, subst, take, ◌∙◌}
 use Rattle.std.proofs.lemmas.List.{take_all, take_more}
 use Rattle.class_rename.specs.Names.{MethodName}

@@ -1,3 +1,4 @@
+-- Answers of `apply_new`: what its calls ask for, and what it promises.
 use Rattle.std.proofs.Common.{true, false, List, ℕ, refl, sym, ap, ◌∙◌}
 use Rattle.indexmap.specs.IndexMap.{insert_entry}
 use Rattle.fresh_names.specs.bodies.Giving.{stays_in, what_stays}

@@ -1,3 +1,4 @@
+-- Answers of `apply_told`: what its calls ask for, and what it promises.
 use Rattle.std.proofs.Common.{ap, subst, sym, ◌∙◌}
 use Rattle.std.specs.Prelude.{◌≡◌, Some}
 use Rattle.class_rename.specs.Names.{MethodName}

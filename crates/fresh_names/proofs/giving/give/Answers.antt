@@ -1,3 +1,4 @@
+-- Answers of `give`: what its calls ask for, and what it promises.
 use Rattle.std.proofs.Common.{◌∙◌, ap, sym}
 use Rattle.fresh_names.specs.bodies.Giving.{front_in, stays_in, what_stays}
 use Rattle.fresh_names.specs.declared.taken.Named.{Named}

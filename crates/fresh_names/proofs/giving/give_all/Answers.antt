@@ -1,3 +1,4 @@
+-- Answers of `give_all`: what its calls ask for, and what it promises.
 use Rattle.std.proofs.Common.{List, ℕ, ◌∷◌, ◌++◌, [], sym, subst, take, ◌∙◌}
 use Rattle.std.proofs.lemmas.List.{take_all, take_more}
 use Rattle.fresh_names.specs.bodies.Giving.{IsGiven, front_in, stays_in, what_stays}

@@ -1,3 +1,4 @@
+-- Answers of `give_names`: what its calls ask for, and what it promises.
 use Rattle.fresh_names.proofs.giving.give_names.Goals as goal
 
 pub returns : goal.returns

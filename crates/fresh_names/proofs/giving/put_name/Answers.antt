@@ -1,3 +1,4 @@
+-- Answers of `put_name`: what its calls ask for, and what it promises.
 use Rattle.std.proofs.Common.{ap, ◌∙◌}
 use Rattle.indexmap.specs.IndexMap.{insert_entry}
 use Rattle.fresh_names.proofs.giving.put_name.Goals as goal

@@ -1,3 +1,4 @@
+-- Answers of `given_names_differ`: what its calls ask for, and what it promises.
 use Rattle.fresh_names.proofs.Tables.{classes_differ, classes_stay, fields_differ, fields_stay, methods_differ}
 use Rattle.fresh_names.proofs.Tables.{methods_stay, packages_stay}
 use Rattle.fresh_names.proofs.laws.given_names_differ.Goals as goal

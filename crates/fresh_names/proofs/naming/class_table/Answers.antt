@@ -1,3 +1,4 @@
+-- Answers of `class_table`: what its calls ask for, and what it promises.
 use Rattle.std.proofs.Common.{List, ℕ, refl, ap, ◌∙◌}
 use Rattle.std.specs.Map.{lookup}
 use Rattle.std.specs.Prelude.{Option}

@@ -1,3 +1,4 @@
+-- Answers of `field_names`: what its calls ask for, and what it promises.
 use Rattle.std.proofs.Common.{◌∙◌, ap, ◌++◌, map}
 use Rattle.jv_base.proofs.Lists.{flat_more}
 use Rattle.class_model.specs.declared.class.Class.{Class}

@@ -1,3 +1,4 @@
+-- Answers of `method_names`: what its calls ask for, and what it promises.
 use Rattle.std.proofs.Common.{◌∙◌, ap, ◌++◌, map}
 use Rattle.jv_base.specs.Types.{method_text}
 use Rattle.jv_base.proofs.Lists.{flat_more}

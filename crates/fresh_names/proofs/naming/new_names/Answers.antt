@@ -1,3 +1,4 @@
+-- Answers of `new_names`: what its calls ask for, and what it promises.
 use Rattle.std.proofs.Common.{◌∙◌, List, ap}
 use Rattle.class_model.specs.declared.class.Class.{Class}
 use Rattle.class_rename.specs.Names.{names_in}

@@ -1,3 +1,4 @@
+-- Answers of `place_plain`: what its calls ask for, and what it promises.
 use Rattle.std.proofs.Common.{sym, subst}
 use Rattle.gen_classes.specs.Laws.{CanBeWritten}
 use Rattle.gen_classes.proofs.files.place_plain.Goals as goal

@@ -1,3 +1,4 @@
+-- Answers of `placed`: what its calls ask for, and what it promises.
 use Rattle.std.proofs.Common.{◌≡◌, ◌∙◌, ap, sym, arith}
 use Rattle.gen_classes.specs.Generated.{Placed, caller_class, file_of, plain_class, put_file}
 use Rattle.gen_classes.proofs.Placing.{one_more, placed_below}

@@ -1,3 +1,4 @@
+-- Answers of `image_keeps_links`: what its calls ask for, and what it promises.
 use Rattle.image_laws.proofs.SetImage.Access.{member_accessible_moved, overrides_moved}
 use Rattle.image_laws.proofs.SetImage.Finding.{field_moved, method_moved}
 use Rattle.image_laws.proofs.SetImage.Selecting.{selected_moved, special_moved}

@@ -1,3 +1,4 @@
+-- Answers of `shrunk_is_image`: what its calls ask for, and what it promises.
 use Rattle.std.proofs.Common.{refl}
 use Rattle.image_laws.proofs.ShrunkImage.Classes.{shrunk_image}
 use Rattle.image_laws.proofs.shrunk_image.shrunk_is_image.Goals as goal

@@ -1,3 +1,4 @@
+-- Answers of `taken_sets_are_proper`: what its calls ask for, and what it promises.
 use Rattle.image_laws.proofs.TakenSet.Members.{own_declared}
 use Rattle.image_laws.proofs.TakenSet.Names.{class_found, differ}
 use Rattle.image_laws.proofs.TakenSet.Proper.{is_proper, open_interfaces}

@@ -1,3 +1,4 @@
+-- Answers of `images_of_sets_do_the_same`: what its calls ask for, and what it promises.
 use Rattle.jvm_model.proofs.Side.{mapped_same, mapped_steps}
 use Rattle.set_view.specs.ViewOf.{view_of}
 use Rattle.image_laws.proofs.ViewImage.Views.{view_same}

@@ -1,3 +1,4 @@
+-- Answers of `asked_of`: what its calls ask for, and what it promises.
 use Rattle.std.proofs.Common.{[]}
 use Rattle.require_sys.proofs.Steps.{none_there}
 use Rattle.item_needs.proofs.classes.asked_of.Goals as goal

@@ -1,3 +1,4 @@
+-- Answers of `want_asked`: what its calls ask for, and what it promises.
 use Rattle.std.proofs.Common.{All, List, ℕ, ◌<◌, length, map, subst, sym}
 use Rattle.std.specs.Prelude.{OnOk, ◌≡◌}
 use Rattle.class_pool.specs.Found.{rows_in}

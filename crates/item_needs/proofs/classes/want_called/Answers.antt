@@ -1,3 +1,4 @@
+-- Answers of `want_called`: what its calls ask for, and what it promises.
 use Rattle.std.proofs.Common.{List, ap, subst, sym, ◌∙◌}
 use Rattle.std.specs.Prelude.{OnOk, ◌≡◌}
 use Rattle.std.specs.List.{flat_map}

@@ -1,3 +1,4 @@
+-- Answers of `want_called_by`: what its calls ask for, and what it promises.
 use Rattle.class_pool.specs.declared.id.ClassId.{ClassId}
 use Rattle.item_numbers.specs.bodies.Selecting.{called_by}
 use Rattle.item_numbers.proofs.Gathering.{more_wanted}

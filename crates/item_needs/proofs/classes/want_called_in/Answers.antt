@@ -1,3 +1,4 @@
+-- Answers of `want_called_in`: what its calls ask for, and what it promises.
 use Rattle.std.proofs.Common.{rules, ◌<◌, arith, length, sym}
 use Rattle.lib_table.specs.Library.{library}
 use Rattle.lib_table.proofs.Classes.{members_few}

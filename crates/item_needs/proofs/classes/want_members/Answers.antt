@@ -1,3 +1,4 @@
+-- Answers of `want_members`: what its calls ask for, and what it promises.
 use Rattle.std.proofs.Common.{List, ℕ, ap, get_or, subst, sym}
 use Rattle.std.proofs.lemmas.List.{get_or_default}
 use Rattle.class_model.specs.declared.class.Class.{Class}

@@ -1,3 +1,4 @@
+-- Answers of `want_of_class`: what its calls ask for, and what it promises.
 use Rattle.std.proofs.Common.{◌++◌}
 use Rattle.require_sys.specs.Requires.{called_wants, initialisation_wants, rule_wants, super_wants}
 use Rattle.item_numbers.proofs.Gathering.{and_then}

@@ -1,3 +1,4 @@
+-- Answers of `want_run`: what its calls ask for, and what it promises.
 use Rattle.class_pool.specs.Found.{is_instance_method}
 use Rattle.item_numbers.proofs.AloneLaw.{alone_run}
 use Rattle.item_needs.proofs.classes.want_run.Goals as goal

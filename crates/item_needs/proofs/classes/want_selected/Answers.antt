@@ -1,3 +1,4 @@
+-- Answers of `want_selected`: what its calls ask for, and what it promises.
 use Rattle.std.proofs.Common.{List, refl, subst, true}
 use Rattle.class_model.specs.declared.class.Class.{Class}
 use Rattle.class_pool.specs.Found.{named_at}

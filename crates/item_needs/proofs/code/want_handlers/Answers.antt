@@ -1,3 +1,4 @@
+-- Answers of `want_handlers`: what its calls ask for, and what it promises.
 use Rattle.require_sys.specs.Requires.{handler_wants}
 use Rattle.item_numbers.proofs.Gathering.{more_wanted}
 use Rattle.item_needs.proofs.code.want_handlers.Goals as goal

@@ -1,3 +1,4 @@
+-- Answers of `want_instructions`: what its calls ask for, and what it promises.
 use Rattle.class_model.specs.declared.code.Ins.{Ins}
 use Rattle.require_sys.specs.Requires.{op_wants}
 use Rattle.item_numbers.proofs.Gathering.{nothing}

@@ -1,3 +1,4 @@
+-- Answers of `want_ref`: what its calls ask for, and what it promises.
 use Rattle.std.proofs.Common.{subst}
 use Rattle.std.specs.Prelude.{OnOk}
 use Rattle.item_needs.specs.bodies.Known.{ref_wants}

@@ -1,3 +1,4 @@
+-- Answers of `want_ref_and_keep`: what its calls ask for, and what it promises.
 use Rattle.item_needs.specs.bodies.Known.{ref_wants}
 use Rattle.item_needs.proofs.Remembering.{kept_then, last_wanted}
 use Rattle.item_needs.proofs.code.want_ref_and_keep.Goals as goal

@@ -1,3 +1,4 @@
+-- Answers of `want_special_ref`: what its calls ask for, and what it promises.
 use Rattle.std.proofs.Common.{List, ap, sym, ◌∙◌}
 use Rattle.class_model.specs.declared.class.Class.{Class}
 use Rattle.class_pool.specs.declared.id.ClassId.TheVariants.{Prog}

@@ -1,3 +1,4 @@
+-- Answers of `want_frame`: what its calls ask for, and what it promises.
 use Rattle.std.proofs.Common.{◌∙◌}
 use Rattle.item_needs.proofs.SharedFrames.{frame_then}
 use Rattle.item_needs.proofs.frames.want_frame.Goals as goal

@@ -1,3 +1,4 @@
+-- Answers of `want_frames`: what its calls ask for, and what it promises.
 use Rattle.std.proofs.Common.{arith}
 use Rattle.item_numbers.proofs.Gathering.{nothing}
 use Rattle.item_needs.proofs.SharedFrames.{more_frames, same_is}

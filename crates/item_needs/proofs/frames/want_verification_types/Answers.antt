@@ -1,3 +1,4 @@
+-- Answers of `want_verification_types`: what its calls ask for, and what it promises.
 use Rattle.require_sys.specs.Requires.{verification_wants}
 use Rattle.item_numbers.proofs.Gathering.{more_wanted}
 use Rattle.item_needs.proofs.frames.want_verification_types.Goals as goal

@@ -1,3 +1,4 @@
+-- Answers of `want_of_method`: what its calls ask for, and what it promises.
 use Rattle.item_needs.proofs.SharedFrames.{method_then}
 use Rattle.item_needs.proofs.members.want_of_method.Goals as goal
 

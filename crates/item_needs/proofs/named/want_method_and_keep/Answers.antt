@@ -1,3 +1,4 @@
+-- Answers of `want_method_and_keep`: what its calls ask for, and what it promises.
 use Rattle.jv_base.specs.Descriptors.{read_method}
 use Rattle.require_sys.specs.Requires.{method_text_wants}
 use Rattle.item_needs.proofs.Remembering.{kept_then, last_wanted}

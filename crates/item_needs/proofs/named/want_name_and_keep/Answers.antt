@@ -1,3 +1,4 @@
+-- Answers of `want_name_and_keep`: what its calls ask for, and what it promises.
 use Rattle.require_sys.specs.Requires.{name_wants}
 use Rattle.item_needs.proofs.Remembering.{kept_then, last_wanted}
 use Rattle.item_needs.proofs.named.want_name_and_keep.Goals as goal

@@ -1,3 +1,4 @@
+-- Answers of `want_types`: what its calls ask for, and what it promises.
 use Rattle.require_sys.specs.Requires.{type_wants}
 use Rattle.item_numbers.proofs.Gathering.{more_wanted}
 use Rattle.item_needs.proofs.named.want_types.Goals as goal

@@ -1,3 +1,4 @@
+-- Answers of `add_methods`: what its calls ask for, and what it promises.
 use Rattle.std.proofs.Common.{◌≡◌, List, ℕ, ◌+◌, ap, length, sym, ◌∙◌}
 use Rattle.class_pool.specs.Items.{class_item}
 use Rattle.class_model.specs.declared.class.Class.{Class}

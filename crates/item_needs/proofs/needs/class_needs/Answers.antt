@@ -1,3 +1,4 @@
+-- Answers of `class_needs`: what its calls ask for, and what it promises.
 use Rattle.std.proofs.Common.{ℕ, ap, subst, ◌∙◌}
 use Rattle.std.specs.Prelude.{◌≡◌, IfOk}
 use Rattle.require_sys.specs.Requires.{class_wants, needs_of}

@@ -1,3 +1,4 @@
+-- Answers of `field_needs`: what its calls ask for, and what it promises.
 use Rattle.std.proofs.Common.{ap, ◌∙◌}
 use Rattle.require_sys.specs.Requires.{field_wants}
 use Rattle.item_numbers.specs.bodies.Wanting.{Wanted, wanting}

@@ -1,3 +1,4 @@
+-- Answers of `method_needs`: what its calls ask for, and what it promises.
 use Rattle.std.proofs.Common.{subst}
 use Rattle.require_sys.specs.Requires.{method_wants}
 use Rattle.item_numbers.specs.bodies.Wanting.{HasSame, Wanted, wanting}

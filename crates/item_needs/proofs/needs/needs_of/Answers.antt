@@ -1,3 +1,4 @@
+-- Answers of `needs_of`: what its calls ask for, and what it promises.
 use Rattle.std.proofs.Common.{List, ℕ, refl, subst}
 use Rattle.require_sys.specs.Requires.{class_needs}
 use Rattle.item_needs.specs.bodies.Counting.{HasNeeds}

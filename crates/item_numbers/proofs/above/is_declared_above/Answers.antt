@@ -1,3 +1,4 @@
+-- Answers of `is_declared_above`: what its calls ask for, and what it promises.
 use Rattle.std.proofs.Common.{◌≡◌, ◌<◌, ◌-◌, ◌+◌, ℕ, arith, refl, subst, sym, ◌∙◌}
 use Rattle.class_pool.specs.Found.{named_at}
 use Rattle.class_pool.specs.Hierarchy.{superclass}

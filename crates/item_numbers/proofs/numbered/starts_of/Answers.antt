@@ -1,3 +1,4 @@
+-- Answers of `starts_of`: what its calls ask for, and what it promises.
 use Rattle.std.proofs.Common.{rules, ◌≡◌, ◌+◌, ◌++◌, ◌∷◌, [], arith}
 use Rattle.class_pool.specs.Items.{class_item}
 use Rattle.class_pool.proofs.Counting.{class_item-next, class_item-le}

@@ -1,3 +1,4 @@
+-- Answers of `libraries_met`: what its calls ask for, and what it promises.
 use Rattle.std.proofs.Common.{List, ap, ◌∙◌, ◌++◌}
 use Rattle.std.specs.List.{filter}
 use Rattle.class_pool.specs.Walk.{each_once}

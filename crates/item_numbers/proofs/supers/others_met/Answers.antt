@@ -1,3 +1,4 @@
+-- Answers of `others_met`: what its calls ask for, and what it promises.
 use Rattle.std.proofs.Common.{List, ℕ, ap, ◌∙◌, ◌++◌}
 use Rattle.std.specs.List.{filter_map, flat_map}
 use Rattle.item_numbers.specs.bodies.Supers.{other_number, own_once}

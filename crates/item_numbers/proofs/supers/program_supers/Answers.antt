@@ -1,3 +1,4 @@
+-- Answers of `program_supers`: what its calls ask for, and what it promises.
 use Rattle.std.proofs.Common.{ap, ◌∙◌}
 use Rattle.std.specs.Prelude.{nat_eq}
 use Rattle.std.proofs.lemmas.List.Filters.{dedup_is}

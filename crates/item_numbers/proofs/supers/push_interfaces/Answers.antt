@@ -1,3 +1,4 @@
+-- Answers of `push_interfaces`: what its calls ask for, and what it promises.
 use Rattle.std.proofs.Common.{List, ap, sym, ◌∙◌, ◌++◌}
 use Rattle.std.specs.List.{filter_map}
 use Rattle.std.proofs.lemmas.List.{append-nil}

@@ -1,3 +1,4 @@
+-- Answers of `push_others`: what its calls ask for, and what it promises.
 use Rattle.std.proofs.Common.{sym}
 use Rattle.std.proofs.lemmas.List.{append-nil}
 use Rattle.item_numbers.specs.bodies.Supers.{other_number}

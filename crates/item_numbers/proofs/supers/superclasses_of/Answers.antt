@@ -1,3 +1,4 @@
+-- Answers of `superclasses_of`: what its calls ask for, and what it promises.
 use Rattle.std.proofs.Common.{◌≡◌, ◌-◌, ◌+◌, ◌<◌, ◌++◌, ℕ, List, [], Option, Some, sym, ap, subst, arith, ◌∙◌}
 use Rattle.std.specs.Option.{IfSome, option_map_or}
 use Rattle.class_pool.specs.Hierarchy.{IsClass}

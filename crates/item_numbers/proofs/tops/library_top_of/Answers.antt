@@ -1,3 +1,4 @@
+-- Answers of `library_top_of`: what its calls ask for, and what it promises.
 use Rattle.std.proofs.Common.{arith}
 use Rattle.class_pool.specs.Walk.{own_superinterfaces}
 use Rattle.class_pool.specs.declared.id.ClassId.TheVariants.{Prog}

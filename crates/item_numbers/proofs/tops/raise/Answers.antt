@@ -1,3 +1,4 @@
+-- Answers of `raise`: what its calls ask for, and what it promises.
 use Rattle.std.proofs.Common.{◌-◌, arith, length, refl}
 use Rattle.item_numbers.proofs.Looking.{top_put}
 use Rattle.item_numbers.proofs.tops.raise.Goals as goal

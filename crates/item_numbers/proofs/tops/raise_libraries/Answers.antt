@@ -1,3 +1,4 @@
+-- Answers of `raise_libraries`: what its calls ask for, and what it promises.
 use Rattle.std.proofs.Common.{◌-◌, arith, length, refl}
 use Rattle.item_numbers.proofs.Looking.{library_top_put}
 use Rattle.item_numbers.proofs.tops.raise_libraries.Goals as goal

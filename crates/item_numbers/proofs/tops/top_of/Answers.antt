@@ -1,3 +1,4 @@
+-- Answers of `top_of`: what its calls ask for, and what it promises.
 use Rattle.std.proofs.Common.{arith, refl}
 use Rattle.item_numbers.proofs.Looking.{top_above}
 use Rattle.item_numbers.proofs.tops.top_of.Goals as goal

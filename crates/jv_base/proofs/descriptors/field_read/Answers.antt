@@ -1,3 +1,4 @@
+-- Answers of `field_read`: what its calls ask for, and what it promises.
 use Rattle.std.proofs.Common.{◌≡◌, ℕ, ◌+◌, ◌<◌, ◌≤◌, List, length, get_or, Some, None, ap, sym, ◌∙◌, arith}
 use Rattle.jv_base.specs.bodies.DescriptorPlaces.{field_at, field_read_at}
 use Rattle.jv_base.specs.Descriptors.{bad_descriptor, field_byte, field_end, read_field}

@@ -1,3 +1,4 @@
+-- Answers of `field_text`: what its calls ask for, and what it promises.
 use Rattle.std.proofs.Common.{ℕ, List, ◌++◌, ap, sym, ◌∙◌}
 use Rattle.jv_base.specs.Types.{field_text}
 use Rattle.jv_base.proofs.FieldLaw.{read_field-only}

@@ -1,3 +1,4 @@
+-- Answers of `grow`: what its calls ask for, and what it promises.
 use Rattle.std.proofs.Common.{◌+◌, ap, sym, ◌∙◌}
 use Rattle.std.specs.Prelude.{slice_range}
 use Rattle.jv_base.specs.bodies.DescriptorPlaces.{begun_at, grown_at, more_of}

@@ -1,3 +1,4 @@
+-- Answers of `grow_brackets`: what its calls ask for, and what it promises.
 use Rattle.std.proofs.Common.{arith}
 use Rattle.jv_base.proofs.Places.{begins_behind}
 use Rattle.jv_base.proofs.descriptors.grow_brackets.Goals as goal

@@ -1,3 +1,4 @@
+-- Answers of `method_read`: what its calls ask for, and what it promises.
 use Rattle.std.proofs.Common.{◌≡◌, Option, refl, ℕ, ◌+◌, ◌<◌, ◌≤◌, List, length, get_or, Some, None, ap, sym, ◌∙◌}
 use Rattle.std.proofs.Common.{arith}
 use Rattle.jv_base.specs.bodies.DescriptorPlaces.{method_next_at, method_read_at, part_at}

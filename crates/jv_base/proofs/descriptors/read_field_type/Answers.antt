@@ -1,3 +1,4 @@
+-- Answers of `read_field_type`: what its calls ask for, and what it promises.
 use Rattle.jv_base.proofs.FieldLaw.{read_field-found, read_field-only, read_field-longest}
 use Rattle.jv_base.proofs.Due.{due_found, due_only, due_fault}
 use Rattle.jv_base.proofs.descriptors.read_field_type.Goals as goal

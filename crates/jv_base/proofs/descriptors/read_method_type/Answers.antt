@@ -1,3 +1,4 @@
+-- Answers of `read_method_type`: what its calls ask for, and what it promises.
 use Rattle.jv_base.proofs.MethodLaw.{read_method-found, read_method-only, read_method-longest}
 use Rattle.jv_base.proofs.Due.{due_found, due_only, due_fault}
 use Rattle.jv_base.proofs.descriptors.read_method_type.Goals as goal

@@ -1,3 +1,4 @@
+-- Answers of `returned_step`: what its calls ask for, and what it promises.
 use Rattle.std.proofs.Common.{◌+◌}
 use Rattle.jv_base.proofs.descriptors.returned_step.Goals as goal
 

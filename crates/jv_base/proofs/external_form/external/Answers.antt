@@ -1,3 +1,4 @@
+-- Answers of `external`: what its calls ask for, and what it promises.
 use Rattle.std.proofs.Common.{ℕ, List, ◌++◌, ap, sym, ◌∙◌}
 use Rattle.std.specs.List.{repeat}
 use Rattle.std.specs.Prelude.{codes}

@@ -1,3 +1,4 @@
+-- Answers of `external_read`: what its calls ask for, and what it promises.
 use Rattle.std.proofs.Common.{◌≡◌, ℕ, ◌+◌, ◌<◌, ◌≤◌, List, length, get_or, Some, None, ap, sym, ◌∙◌, arith}
 use Rattle.jv_base.specs.Descriptors.{bad_descriptor}
 use Rattle.jv_base.specs.External.{external_byte, external_end, read_external}

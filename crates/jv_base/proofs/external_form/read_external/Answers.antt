@@ -1,3 +1,4 @@
+-- Answers of `read_external`: what its calls ask for, and what it promises.
 use Rattle.jv_base.proofs.ExternalLaw.{read_external-found, read_external-only, read_external-longest}
 use Rattle.jv_base.proofs.Due.{due_found, due_only, due_fault}
 use Rattle.jv_base.proofs.external_form.read_external.Goals as goal

@@ -1,3 +1,4 @@
+-- Answers of `decoded`: what its calls ask for, and what it promises.
 use Rattle.std.proofs.Common.{◌≡◌, ℕ, List, ap, sym, ◌∙◌, refl, Some, None}
 use Rattle.jv_base.specs.Decoding.{Decoded, decode_byte, decode_end, decoded_on, whole_units, bad_utf8, read_mutf8}
 use Rattle.jv_base.specs.Walk.{or_fault}

@@ -1,3 +1,4 @@
+-- Answers of `mutf8_of_units`: what its calls ask for, and what it promises.
 use Rattle.std.proofs.Common.{◌≡◌, ℕ, List, ◌++◌, get_or, Ok, ap, arith, refl, subst, sym, ◌∙◌}
 use Rattle.std.proofs.lemmas.List.{take_all}
 use Rattle.jv_base.specs.Mutf8.{mutf8, unit_bytes}

@@ -1,3 +1,4 @@
+-- Answers of `units_of_mutf8`: what its calls ask for, and what it promises.
 use Rattle.jv_base.proofs.Coding.{read_mutf8-found, read_mutf8-only, read_mutf8-longest}
 use Rattle.jv_base.proofs.Due.{due_found, due_only, due_fault}
 use Rattle.jv_base.proofs.mutf8.units_of_mutf8.Goals as goal

@@ -1,3 +1,4 @@
+-- Answers of `text_of_units`: what its calls ask for, and what it promises.
 use Rattle.std.proofs.Common.{◌∙◌, ℕ, List, Some, ap, subst, sym}
 use Rattle.std.proofs.lemmas.Str.{IsUtf8-string_bytes}
 use Rattle.jv_base.specs.Utf16.{IsTextOf}

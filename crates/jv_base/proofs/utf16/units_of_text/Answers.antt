@@ -1,3 +1,4 @@
+-- Answers of `units_of_text`: what its calls ask for, and what it promises.
 use Rattle.std.proofs.Common.{sym, ◌++◌, List, ℕ, ap, ◌∙◌}
 use Rattle.std.specs.Str.Iter.{encode_utf16_pending, encode_utf16_rest}
 use Rattle.jv_base.specs.Utf16.{units_of}

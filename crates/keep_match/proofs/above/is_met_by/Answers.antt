@@ -1,3 +1,4 @@
+-- Answers of `is_met_by`: what its calls ask for, and what it promises.
 use Rattle.std.proofs.Common.{arith}
 use Rattle.keep_match.proofs.SuperLaw.{met_above, met_next}
 use Rattle.keep_match.proofs.above.is_met_by.Goals as goal

@@ -1,3 +1,4 @@
+-- Answers of `members_asked`: what its calls ask for, and what it promises.
 use Rattle.std.proofs.Common.{◌∙◌, List, Bool, ap, arith, length, subst}
 use Rattle.std.specs.List.{flat_map}
 use Rattle.keep_rules.specs.declared.rules.Keep.{Keep}

@@ -1,3 +1,4 @@
+-- Answers of `members_of`: what its calls ask for, and what it promises.
 use Rattle.std.proofs.Common.{ap, arith, length, sym}
 use Rattle.keep_match.proofs.PlaceLaw.{row_fits}
 use Rattle.keep_match.proofs.asked.members_of.Goals as goal

@@ -1,3 +1,4 @@
+-- Answers of `has_above`: what its calls ask for, and what it promises.
 use Rattle.std.proofs.Common.{◌∙◌, ◌||◌, Bool, sym, ap}
 use Rattle.std.specs.List.{list_any}
 use Rattle.std.proofs.lemmas.List.Elements.{All-rest}

@@ -1,3 +1,4 @@
+-- Answers of `accepts_attribute`: what its calls ask for, and what it promises.
 use Rattle.std.proofs.Common.{sym}
 use Rattle.keep_match.specs.Wildcards.{wild}
 use Rattle.keep_match.proofs.Filtering.{accepts_is}

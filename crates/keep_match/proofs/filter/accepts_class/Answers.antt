@@ -1,3 +1,4 @@
+-- Answers of `accepts_class`: what its calls ask for, and what it promises.
 use Rattle.std.proofs.Common.{sym}
 use Rattle.keep_match.specs.Matches.{matches_class_name}
 use Rattle.keep_match.proofs.Filtering.{accepts_is}

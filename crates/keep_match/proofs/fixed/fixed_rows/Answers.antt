@@ -1,3 +1,4 @@
+-- Answers of `fixed_rows`: what its calls ask for, and what it promises.
 use Rattle.std.proofs.Common.{◌∙◌, List, Bool, ap, subst}
 use Rattle.keep_rules.specs.declared.rules.Keep.{Keep}
 use Rattle.keep_match.specs.bodies.Marks.{HasRows}

@@ -1,3 +1,4 @@
+-- Answers of `add_spec`: what its calls ask for, and what it promises.
 use Rattle.std.proofs.Common.{rules, ◌≡◌, refl, arith}
 use Rattle.keep_match.proofs.TableLaw.{adds_other, adds_put, name_stays}
 use Rattle.keep_match.proofs.member_table.add_spec.Goals as goal

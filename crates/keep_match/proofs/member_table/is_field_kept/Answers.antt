@@ -1,3 +1,4 @@
+-- Answers of `is_field_kept`: what its calls ask for, and what it promises.
 use Rattle.std.proofs.Common.{ℕ, List, subst}
 use Rattle.std.specs.Str.{IsUtf8}
 use Rattle.keep_match.specs.Matches.{matches_field}

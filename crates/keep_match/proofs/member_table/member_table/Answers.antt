@@ -1,3 +1,4 @@
+-- Answers of `member_table`: what its calls ask for, and what it promises.
 use Rattle.keep_match.proofs.TableLaw.{one_found}
 use Rattle.keep_match.proofs.member_table.member_table.Goals as goal
 

@@ -1,3 +1,4 @@
+-- Answers of `are_literal`: what its calls ask for, and what it promises.
 use Rattle.keep_match.proofs.NameLaw.{literal_more}
 use Rattle.keep_match.proofs.named.are_literal.Goals as goal
 

@@ -1,3 +1,4 @@
+-- Answers of `names_of`: what its calls ask for, and what it promises.
 use Rattle.std.proofs.Common.{List, ℕ, subst, sym, ◌∙◌}
 use Rattle.std.specs.Str.{IsUtf8}
 use Rattle.keep_match.proofs.NameLaw.{names_put}

@@ -1,3 +1,4 @@
+-- Answers of `number_of`: what its calls ask for, and what it promises.
 use Rattle.std.proofs.Common.{None, Some, rules, sym}
 use Rattle.keep_match.proofs.NameLaw.{number_is}
 use Rattle.keep_match.proofs.named.number_of.Goals as goal

@@ -1,3 +1,4 @@
+-- Answers of `first_character`: what its calls ask for, and what it promises.
 use Rattle.std.proofs.Common.{◌++◌, List, ℕ, sym, ap, ◌∙◌}
 use lib.Utf8.{encode}
 use Rattle.std.proofs.lemmas.Str.{chars_past_char}

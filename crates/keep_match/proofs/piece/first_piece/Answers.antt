@@ -1,3 +1,4 @@
+-- Answers of `first_piece`: what its calls ask for, and what it promises.
 use Rattle.std.proofs.Common.{◌∷◌, ◌∙◌, ap, rules, sym}
 use Rattle.std.specs.Str.{chars}
 use Rattle.keep_match.specs.declared.piece.Piece.{Piece}

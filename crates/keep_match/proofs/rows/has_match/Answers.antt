@@ -1,3 +1,4 @@
+-- Answers of `has_match`: what its calls ask for, and what it promises.
 use Rattle.std.proofs.Common.{◌∙◌, false, sym, true}
 use Rattle.keep_match.specs.Matches.{members_matched}
 use Rattle.keep_match.proofs.RowLaw.{any_step}

@@ -1,3 +1,4 @@
+-- Answers of `mark_row`: what its calls ask for, and what it promises.
 use Rattle.std.proofs.Common.{◌∙◌, arith}
 use Rattle.std.proofs.lemmas.List.{length-set}
 use Rattle.keep_match.specs.bodies.Marks.{members_kept}

@@ -1,3 +1,4 @@
+-- Answers of `behind_any`: what its calls ask for, and what it promises.
 use Rattle.std.proofs.Common.{rules}
 use Rattle.keep_match.proofs.Scanning.{passed_any_dot, passed_any_end, passed_any_found}
 use Rattle.keep_match.proofs.scan.behind_any.Goals as goal

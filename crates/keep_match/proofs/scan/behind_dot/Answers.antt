@@ -1,3 +1,4 @@
+-- Answers of `behind_dot`: what its calls ask for, and what it promises.
 use Rattle.std.proofs.Common.{arith, rules}
 use Rattle.keep_match.proofs.Scanning.{plain_one}
 use Rattle.keep_match.proofs.scan.behind_dot.Goals as goal

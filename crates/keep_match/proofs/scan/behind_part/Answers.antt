@@ -1,3 +1,4 @@
+-- Answers of `behind_part`: what its calls ask for, and what it promises.
 use Rattle.std.proofs.Common.{rules}
 use Rattle.keep_match.proofs.scan.behind_part.Goals.{in_default-first_shown-via-in-Some-first_shown+else-character-ne46}
 use Rattle.keep_match.proofs.scan.behind_part.Goals.{in_default-first_shown-via-in_default-first_shown}

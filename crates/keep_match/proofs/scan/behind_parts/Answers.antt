@@ -1,3 +1,4 @@
+-- Answers of `behind_parts`: what its calls ask for, and what it promises.
 use Rattle.std.proofs.Common.{arith}
 use Rattle.keep_match.proofs.Scanning.{block_more}
 use Rattle.keep_match.specs.bodies.Scan.{pieces_at}

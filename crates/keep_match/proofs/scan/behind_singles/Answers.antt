@@ -1,3 +1,4 @@
+-- Answers of `behind_singles`: what its calls ask for, and what it promises.
 use Rattle.std.proofs.Common.{arith, rules, sym}
 use Rattle.keep_match.proofs.Scanning.{single_long, single_refused, single_short, single_step}
 use Rattle.keep_match.proofs.scan.behind_singles.Goals as goal

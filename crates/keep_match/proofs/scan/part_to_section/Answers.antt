@@ -1,3 +1,4 @@
+-- Answers of `part_to_section`: what its calls ask for, and what it promises.
 use Rattle.keep_match.proofs.Scanning.{match_further, part_section_fails, part_section_found}
 use Rattle.keep_match.proofs.scan.part_to_section.Goals as goal
 

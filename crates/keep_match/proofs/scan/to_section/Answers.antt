@@ -1,3 +1,4 @@
+-- Answers of `to_section`: what its calls ask for, and what it promises.
 use Rattle.keep_match.proofs.Scanning.{match_further, to_section_fails, to_section_found}
 use Rattle.keep_match.proofs.scan.to_section.Goals as goal
 

@@ -1,3 +1,4 @@
+-- Answers of `mark_all`: what its calls ask for, and what it promises.
 use Rattle.std.proofs.Common.{sym}
 use Rattle.keep_match.proofs.MarkLaw.{rows_wide, rules_more}
 use Rattle.keep_match.proofs.seeds.mark_all.Goals as goal

@@ -1,3 +1,4 @@
+-- Answers of `mark_class`: what its calls ask for, and what it promises.
 use Rattle.std.proofs.Common.{◌∙◌, ◌∷◌, refl, sym, true}
 use Rattle.keep_match.specs.bodies.Marks.{members_kept, or_each}
 use Rattle.keep_match.proofs.MarkLaw.{class_kept, put_kept, put_none, row_lent, row_width}

@@ -1,3 +1,4 @@
+-- Answers of `mark_each`: what its calls ask for, and what it promises.
 use Rattle.std.proofs.Common.{arith}
 use Rattle.keep_match.proofs.MarkLaw.{each_all, each_more, marking_none, rows_stay}
 use Rattle.keep_match.proofs.seeds.mark_each.Goals as goal

@@ -1,3 +1,4 @@
+-- Answers of `mark_named`: what its calls ask for, and what it promises.
 use Rattle.std.proofs.Common.{ap, arith, length}
 use Rattle.keep_match.proofs.MarkLaw.{marking_none, named_all, named_more, rows_stay, value_there}
 use Rattle.keep_match.proofs.NameLaw.{get_below, named_accepted}

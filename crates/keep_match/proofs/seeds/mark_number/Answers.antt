@@ -1,3 +1,4 @@
+-- Answers of `mark_number`: what its calls ask for, and what it promises.
 use Rattle.keep_match.proofs.MarkLaw.{added_put, named_at, unnamed_at}
 use Rattle.keep_match.proofs.seeds.mark_number.Goals as goal
 

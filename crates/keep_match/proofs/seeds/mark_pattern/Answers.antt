@@ -1,3 +1,4 @@
+-- Answers of `mark_pattern`: what its calls ask for, and what it promises.
 use Rattle.keep_match.proofs.MarkLaw.{added_found, added_unnamed}
 use Rattle.keep_match.proofs.seeds.mark_pattern.Goals as goal
 

@@ -1,3 +1,4 @@
+-- Answers of `mark_rows`: what its calls ask for, and what it promises.
 use Rattle.std.proofs.Common.{sym}
 use Rattle.keep_match.proofs.MarkLaw.{off_marked}
 use Rattle.keep_match.proofs.seeds.mark_rows.Goals as goal

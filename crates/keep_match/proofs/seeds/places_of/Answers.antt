@@ -1,3 +1,4 @@
+-- Answers of `places_of`: what its calls ask for, and what it promises.
 use Rattle.std.proofs.Common.{◌∙◌, ◌+◌, ap, arith, length, sym}
 use Rattle.keep_match.proofs.PlaceLaw.{next_more, places_more, row_fits}
 use Rattle.keep_match.proofs.seeds.places_of.Goals as goal

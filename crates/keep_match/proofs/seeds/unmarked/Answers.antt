@@ -1,3 +1,4 @@
+-- Answers of `unmarked`: what its calls ask for, and what it promises.
 use Rattle.std.proofs.Common.{arith}
 use Rattle.keep_match.proofs.MarkLaw.{unmarked_all, unmarked_put}
 use Rattle.keep_match.proofs.seeds.unmarked.Goals as goal

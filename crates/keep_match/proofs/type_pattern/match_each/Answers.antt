@@ -1,3 +1,4 @@
+-- Answers of `match_each`: what its calls ask for, and what it promises.
 use Rattle.std.proofs.Common.{◌∙◌, arith, sym}
 use Rattle.keep_match.proofs.Arguments.{each_end, each_fails, each_on, lengths_differ}
 use Rattle.keep_match.proofs.type_pattern.match_each.Goals as goal

@@ -1,3 +1,4 @@
+-- Answers of `without_pair`: what its calls ask for, and what it promises.
 use Rattle.keep_match.proofs.Pairs.{pair_is}
 use Rattle.keep_match.proofs.type_pattern.without_pair.Goals as goal
 

@@ -1,3 +1,4 @@
+-- Answers of `without_pairs`: what its calls ask for, and what it promises.
 use Rattle.std.proofs.Common.{◌∙◌, arith, rules, sym}
 use Rattle.keep_match.proofs.Pairs.{pairs_end, pairs_more, pairs_stop}
 use Rattle.keep_match.proofs.type_pattern.without_pairs.Goals as goal

@@ -1,3 +1,4 @@
+-- Answers of `wild`: what its calls ask for, and what it promises.
 use Rattle.keep_match.specs.Wildcards.{wild}
 use Rattle.std.proofs.Common.{◌∙◌}
 use Rattle.keep_match.proofs.WildLaw.{wild_is}

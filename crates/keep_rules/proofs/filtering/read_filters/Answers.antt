@@ -1,3 +1,4 @@
+-- Answers of `read_filters`: what its calls ask for, and what it promises.
 use Rattle.std.proofs.Common.{sym, ◌∙◌}
 use Rattle.std.proofs.lemmas.Result.{err_from_is_err_and}
 use Rattle.keep_rules.specs.declared.fault.RuleKind.TheVariants.{MissingName}

@@ -1,3 +1,4 @@
+-- Answers of `read_flags`: what its calls ask for, and what it promises.
 use Rattle.std.proofs.Common.{sym, ◌∙◌}
 use Rattle.keep_rules.specs.declared.fault.RuleKind.TheVariants.{MissingName}
 use Rattle.keep_rules.specs.Texts.{is_flag}

@@ -1,3 +1,4 @@
+-- Answers of `option_in`: what its calls ask for, and what it promises.
 use Rattle.std.proofs.Common.{sym}
 use Rattle.keep_rules.specs.Reading.{word_is_option}
 use Rattle.keep_rules.proofs.Spelling.{found_none, found_within}

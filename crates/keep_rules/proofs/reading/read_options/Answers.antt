@@ -1,3 +1,4 @@
+-- Answers of `read_options`: what its calls ask for, and what it promises.
 use Rattle.std.proofs.Common.{sym, drop}
 use Rattle.std.proofs.lemmas.Result.{err_from_is_err_and}
 use Rattle.std.specs.List.{position_or_len}

@@ -1,3 +1,4 @@
+-- Answers of `is_any_next`: what its calls ask for, and what it promises.
 use Rattle.std.proofs.Common.{◌≡◌, ◌&&◌, Bool, false, sym, ap, ◌∙◌, codes}
 use Rattle.jv_base.specs.Names.{is_text}
 use Rattle.keep_rules.specs.Texts.{is_any_member}

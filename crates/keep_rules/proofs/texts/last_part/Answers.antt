@@ -1,3 +1,4 @@
+-- Answers of `last_part`: what its calls ask for, and what it promises.
 use Rattle.std.proofs.Common.{sym, None, Some, arith, ◌∙◌}
 use Rattle.std.proofs.lemmas.Str.Pattern.{rfind_char}
 use Rattle.keep_rules.proofs.Spelling.{last_part_is, last_part_same}

@@ -1,3 +1,4 @@
+-- Answers of `without_not`: what its calls ask for, and what it promises.
 use Rattle.std.proofs.Common.{sym, None, arith}
 use Rattle.std.proofs.lemmas.Str.Pattern.{strip_prefix_char}
 use Rattle.keep_rules.proofs.Spelling.{without_not_same}

@@ -1,3 +1,4 @@
+-- Answers of `push`: what its calls ask for, and what it promises.
 use Rattle.std.proofs.Common.{rules, ◌≡◌, ℕ, length, List, Some, cond, ap, subst, sym, ◌∙◌}
 use Rattle.std.specs.Prelude.{OnOk, take, is_ok}
 use Rattle.std.specs.BTreeMap.{is_at}

@@ -1,3 +1,4 @@
+-- Answers of `class_of_name`: what its calls ask for, and what it promises.
 use Rattle.std.proofs.Common.{◌<◌, ◌∙◌, sym, subst, arith}
 use Rattle.lib_table.proofs.Classes.{class_found, class_below}
 use Rattle.lib_table.proofs.Computed.{count}

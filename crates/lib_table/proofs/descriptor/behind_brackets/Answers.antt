@@ -1,3 +1,4 @@
+-- Answers of `behind_brackets`: what its calls ask for, and what it promises.
 use Rattle.std.proofs.Common.{◌-◌, ◌+◌, ◌∙◌, sym, arith}
 use Rattle.lib_table.proofs.Behind.{brackets_then}
 use Rattle.lib_table.proofs.descriptor.behind_brackets.Goals as goal

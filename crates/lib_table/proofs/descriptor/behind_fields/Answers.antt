@@ -1,3 +1,4 @@
+-- Answers of `behind_fields`: what its calls ask for, and what it promises.
 use Rattle.std.proofs.Common.{◌∙◌, sym, ap, drop, List, ℕ, ◌+◌, option_copied}
 use Rattle.lib_table.specs.bodies.Stripping.{behind}
 use Rattle.std.specs.List.{flat_map}

@@ -1,3 +1,4 @@
+-- Answers of `lib_like`: what its calls ask for, and what it promises.
 use Rattle.lib_table.proofs.Classes.{members_of_row}
 use Rattle.lib_table.proofs.member.lib_like.Goals as goal
 

@@ -1,3 +1,4 @@
+-- Answers of `lib_method`: what its calls ask for, and what it promises.
 use Rattle.lib_table.proofs.Classes.{members_of_row}
 use Rattle.lib_table.proofs.member.lib_method.Goals as goal
 

@@ -1,3 +1,4 @@
+-- Answers of `row_of_method`: what its calls ask for, and what it promises.
 use Rattle.std.proofs.Common.{◌∙◌, sym, ap, map, arith}
 use Rattle.std.specs.Option.{option_map}
 use Rattle.lib_table.specs.Lookups.{member_told}

@@ -1,3 +1,4 @@
+-- Answers of `ascends`: what its calls ask for, and what it promises.
 use Rattle.std.proofs.Common.{◌∙◌, sym}
 use Rattle.class_pool.proofs.Ascending.{ascends_more, next_less}
 use Rattle.line_sets.proofs.lists.ascends.Goals as goal

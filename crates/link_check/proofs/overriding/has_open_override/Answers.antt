@@ -1,3 +1,4 @@
+-- Answers of `has_open_override`: what its calls ask for, and what it promises.
 use Rattle.std.proofs.Common.{None, Some, ◌&&◌, ◌||◌, ap, refl, sym, ◌∙◌}
 use Rattle.std.proofs.lemmas.List.Elements.{All-rest}
 use Rattle.class_pool.specs.Found.{same_member}

@@ -1,3 +1,4 @@
+-- Answers of `is_declared_from`: what its calls ask for, and what it promises.
 use Rattle.std.proofs.Common.{sym, ◌∙◌}
 use Rattle.link_check.proofs.OverridingLaws.{alike_above, alike_none, false_true}
 use Rattle.link_check.proofs.overriding.is_declared_from.Goals as goal

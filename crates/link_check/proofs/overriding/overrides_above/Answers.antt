@@ -1,3 +1,4 @@
+-- Answers of `overrides_above`: what its calls ask for, and what it promises.
 use Rattle.std.proofs.Common.{◌≡◌, Bool, true, false, ◌||◌, ◌&&◌, refl, sym, ◌∙◌}
 use Rattle.class_pool.specs.Found.{same_member}
 use Rattle.class_pool.specs.Selection.{may_be_overridden, may_override}

@@ -1,3 +1,4 @@
+-- Answers of `computed_profile`: what its calls ask for, and what it promises.
 use Rattle.link_check.proofs.ComputedProfile as computed
 use Rattle.link_check.proofs.rows.computed_profile.Goals as goal
 

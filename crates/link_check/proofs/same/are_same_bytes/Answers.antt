@@ -1,3 +1,4 @@
+-- Answers of `are_same_bytes`: what its calls ask for, and what it promises.
 use Rattle.std.proofs.Common.{rules}
 use Rattle.link_check.proofs.EndsMeet.{ends_meet}
 use Rattle.link_check.proofs.same.are_same_bytes.Goals as goal

@@ -1,3 +1,4 @@
+-- Answers of `item_text`: what its calls ask for, and what it promises.
 use Rattle.std.proofs.Common.{◌≡◌, ℕ, List, Option, Some, slice_get, sym, ap, subst, ◌∙◌}
 use Rattle.std.specs.Prelude.{IfOk}
 use Rattle.list_texts.specs.ItemTexts.{item_texts}

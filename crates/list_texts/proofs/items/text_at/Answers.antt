@@ -1,3 +1,4 @@
+-- Answers of `text_at`: what its calls ask for, and what it promises.
 use Rattle.std.proofs.Common.{rules, ◌≡◌, suc, ◌+◌, ◌-◌, ◌<◌, Some, slice_get, get_or, length, [], sym, ap, ◌∙◌, arith}
 use Rattle.report_text.specs.Spelled.{member_texts}
 use Rattle.list_texts.specs.ItemTexts.{item_texts_of, member_text_of}

@@ -1,3 +1,4 @@
+-- Answers of `item_count`: what its calls ask for, and what it promises.
 use Rattle.std.proofs.Common.{◌≡◌, ◌+◌, arith}
 use Rattle.class_pool.specs.Items.{class_item}
 use Rattle.class_pool.proofs.Counting.{class_item-next, class_item-le}

@@ -1,3 +1,4 @@
+-- Answers of `push_members`: what its calls ask for, and what it promises.
 use Rattle.std.proofs.Common.{◌≤◌, ◌+◌, ◌<◌, ◌++◌, List, ℕ, [], length, map, get_or, Err, ap, subst, ◌∙◌, arith}
 use Rattle.std.proofs.lemmas.Result.{err_from_is_err_and}
 use Rattle.list_texts.specs.bodies.Appends.{IsShort}

@@ -1,3 +1,4 @@
+-- Answers of `seeds_text`: what its calls ask for, and what it promises.
 use Rattle.std.proofs.Common.{◌≡◌, ℕ, Bool, List, Ok, sym, ap, subst, ◌∙◌}
 use Rattle.std.proofs.lemmas.Result.{err_from_is_err_and}
 use Rattle.std.specs.List.{enumerate_from, flat_map}

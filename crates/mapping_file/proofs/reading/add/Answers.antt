@@ -1,3 +1,4 @@
+-- Answers of `add`: what its calls ask for, and what it promises.
 use Rattle.mapping_file.proofs.NamesTold.{field_keeps, method_keeps}
 use Rattle.mapping_file.proofs.reading.add.Goals as goal
 

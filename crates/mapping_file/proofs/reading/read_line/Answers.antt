@@ -1,3 +1,4 @@
+-- Answers of `read_line`: what its calls ask for, and what it promises.
 use Rattle.std.proofs.Common.{◌≡◌, ℕ, List, Option, Some, None, Result, Ok, Err, sym, ap, ◌∙◌}
 use Rattle.text_lines.specs.Lines.{at_line, item_added}
 use Rattle.text_lines.proofs.Taking.{fault_due, fault_told, item_said, not_utf8_line, nothing_said}

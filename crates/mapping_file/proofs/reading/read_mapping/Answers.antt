@@ -1,3 +1,4 @@
+-- Answers of `read_mapping`: what its calls ask for, and what it promises.
 use Rattle.std.proofs.Common.{◌≡◌, List, ℕ, Result, Ok, Err, sym, ap, ◌∙◌}
 use Rattle.std.proofs.lemmas.Result.{err_from_is_err_and}
 use Rattle.jv_base.proofs.Due.{due_only}

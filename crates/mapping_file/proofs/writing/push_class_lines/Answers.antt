@@ -1,3 +1,4 @@
+-- Answers of `push_class_lines`: what its calls ask for, and what it promises.
 use Rattle.mapping_file.proofs.Canonical.{class_pushed}
 use Rattle.mapping_file.proofs.writing.push_class_lines.Goals as goal
 

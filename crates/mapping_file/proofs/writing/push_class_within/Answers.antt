@@ -1,3 +1,4 @@
+-- Answers of `push_class_within`: what its calls ask for, and what it promises.
 use Rattle.std.proofs.Common.{◌++◌, ◌∙◌, ap}
 use Rattle.mapping_file.proofs.Limits.{class_pushed_within}
 use Rattle.mapping_file.proofs.writing.push_class_within.Goals as goal

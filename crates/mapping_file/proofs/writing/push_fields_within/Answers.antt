@@ -1,3 +1,4 @@
+-- Answers of `push_fields_within`: what its calls ask for, and what it promises.
 use Rattle.std.proofs.Common.{inl, [], ◌∷◌, ◌++◌, arith}
 use Rattle.mapping_file.specs.MapLines.{field_line_text}
 use Rattle.mapping_file.proofs.Limits.{pushed_more, stops}

@@ -1,3 +1,4 @@
+-- Answers of `push_methods_within`: what its calls ask for, and what it promises.
 use Rattle.std.proofs.Common.{inl, [], ◌∷◌, ◌++◌, arith}
 use Rattle.mapping_file.specs.MapLines.{method_line_text}
 use Rattle.mapping_file.proofs.Limits.{pushed_more, stops}

@@ -1,3 +1,4 @@
+-- Answers of `push_within`: what its calls ask for, and what it promises.
 use Rattle.std.proofs.Common.{arith}
 use Rattle.std.specs.List.{flat_map}
 use Rattle.mapping_file.specs.Mappings.{class_lines, ended_line, mapping_text}

@@ -1,3 +1,4 @@
+-- Answers of `write_mapping`: what its calls ask for, and what it promises.
 use Rattle.std.proofs.Common.{◌++◌, ◌∙◌, ap}
 use Rattle.mapping_file.specs.MapReading.{read_mapping}
 use Rattle.mapping_file.specs.Mappings.{mapping_text}

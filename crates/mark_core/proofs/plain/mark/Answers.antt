@@ -1,3 +1,4 @@
+-- Answers of `mark`: what its calls ask for, and what it promises.
 use Rattle.std.proofs.Common.{◌<◌, true, refl, sym, subst}
 use Rattle.std.specs.Vec.{with_item}
 use Rattle.mark_core.proofs.Marking.{sound_after, grows_after}

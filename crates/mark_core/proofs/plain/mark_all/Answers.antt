@@ -1,3 +1,4 @@
+-- Answers of `mark_all`: what its calls ask for, and what it promises.
 use Rattle.std.proofs.Common.{take_all, subst, take, arith}
 use Rattle.std.specs.List.{All}
 use Rattle.std.proofs.lemmas.List.Elements.{All-weaker, All-more, All-get_or}

@@ -1,3 +1,4 @@
+-- Answers of `mark_pair`: what its calls ask for, and what it promises.
 use Rattle.std.proofs.Common.{◌<◌, sym, subst}
 use Rattle.mark_core.proofs.Sets.{read_true}
 use Rattle.mark_core.proofs.Growing.{derived_due}

@@ -1,3 +1,4 @@
+-- Answers of `plain_marks`: what its calls ask for, and what it promises.
 use Rattle.std.proofs.Common.{subst, sym}
 use Rattle.mark_core.specs.Marks.{Marks}
 use Rattle.mark_core.proofs.Opening.{marks_at_end}

@@ -1,3 +1,4 @@
+-- Answers of `take`: what its calls ask for, and what it promises.
 use Rattle.std.proofs.Common.{◌≡◌, [], subst, sym, ◌∙◌}
 use Rattle.std.specs.List.{All}
 use Rattle.std.proofs.lemmas.Option.{get_or_from_slice_get}

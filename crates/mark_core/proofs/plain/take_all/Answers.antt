@@ -1,3 +1,4 @@
+-- Answers of `take_all`: what its calls ask for, and what it promises.
 use Rattle.std.proofs.Common.{refl, subst, sym}
 use Rattle.std.specs.List.{Contains}
 use Rattle.std.proofs.lemmas.List.Elements.{All-contains, Contains-push}

@@ -1,3 +1,4 @@
+-- Answers of `runs_keep_invariant`: what its calls ask for, and what it promises.
 use Rattle.mark_machine.proofs.Runs.{reached, run_quiet, quiet_marks}
 use Rattle.mark_machine.proofs.law.runs_keep_invariant.Goals as goal
 

@@ -1,3 +1,4 @@
+-- Answers of `read_marks`: what its calls ask for, and what it promises.
 use Rattle.std.specs.Mem.Slots.{slots_items}
 use Rattle.mark_words.proofs.Closing.{marks_more}
 use Rattle.mark_words.proofs.close.read_marks.Goals as goal

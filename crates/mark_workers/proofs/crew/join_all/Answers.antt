@@ -1,3 +1,4 @@
+-- Answers of `join_all`: what its calls ask for, and what it promises.
 use Rattle.mark_words.specs.Seats.{view, system_of}
 use Rattle.mark_workers.proofs.Known.{knows_more}
 use Rattle.mark_workers.proofs.crew.join_all.Goals as goal

@@ -1,3 +1,4 @@
+-- Answers of `join_seats`: what its calls ask for, and what it promises.
 use Rattle.std.proofs.Common.{◌≡◌, ◌+◌, ap, length, subst, sym, ◌∙◌}
 use Rattle.std.specs.List.{All, Contains}
 use Rattle.std.proofs.lemmas.List.{length_push}

@@ -1,3 +1,4 @@
+-- Answers of `claim`: what its calls ask for, and what it promises.
 use Rattle.std.proofs.Common.{◌<◌, subst, sym}
 use Rattle.mark_core.proofs.Sets.{read_true}
 use Rattle.mark_words.specs.Seats.{view, system_of}

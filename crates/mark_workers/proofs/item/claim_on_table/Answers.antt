@@ -1,3 +1,4 @@
+-- Answers of `claim_on_table`: what its calls ask for, and what it promises.
 use Rattle.std.proofs.Common.{subst, sym}
 use Rattle.std.specs.List.{Contains}
 use Rattle.mark_machine.specs.declared.machine.View.{View}

@@ -1,3 +1,4 @@
+-- Answers of `do_item`: what its calls ask for, and what it promises.
 use Rattle.std.proofs.Common.{false, subst, sym, ◌∙◌}
 use Rattle.std.specs.List.{Contains}
 use Rattle.std.proofs.lemmas.List.Elements.{All-weaker}

@@ -1,3 +1,4 @@
+-- Answers of `look`: what its calls ask for, and what it promises.
 use Rattle.std.proofs.Common.{inr}
 use Rattle.mark_words.specs.Seats.{view, system_of}
 use Rattle.mark_workers.proofs.Kept.{kept_trans, may_kept, sides_below}

@@ -1,3 +1,4 @@
+-- Answers of `look_pair`: what its calls ask for, and what it promises.
 use Rattle.std.proofs.Common.{subst, sym}
 use Rattle.mark_words.specs.Seats.{MarkSeat, view, system_of}
 use Rattle.mark_workers.specs.Work.{Kept}

@@ -1,3 +1,4 @@
+-- Answers of `mark_all`: what its calls ask for, and what it promises.
 use Rattle.std.proofs.Common.{rules, ◌≡◌, ℕ, ◌+◌, ◌++◌, false, List, ap, drop, length, replicate, subst, sym, take, ◌∙◌}
 use Rattle.std.specs.List.{All}
 use Rattle.mark_core.specs.declared.system.System.{System}

@@ -1,3 +1,4 @@
+-- Answers of `seed`: what its calls ask for, and what it promises.
 use Rattle.std.proofs.Common.{false, arith, subst, sym, take, take_all, ◌∙◌}
 use Rattle.std.specs.List.{All, Contains}
 use Rattle.std.proofs.lemmas.List.Elements.{All-more, All-weaker}

@@ -1,3 +1,4 @@
+-- Answers of `index_of`: what its calls ask for, and what it promises.
 use Rattle.std.proofs.Common.{◌≡◌, ℕ, ◌+◌, ◌*◌, ◌<◌, List, length, get_or, subst, ap, arith}
 use Rattle.mark_core.specs.declared.system.Pair.{Pair}
 use Rattle.mark_core.specs.bodies.PairIndex.{pair_at, IsIndexOf, LinksNext}

@@ -1,3 +1,4 @@
+-- Answers of `round`: what its calls ask for, and what it promises.
 use Rattle.std.proofs.Common.{◌≡◌, ℕ, true, false, Bool, ap, subst, sym}
 use Rattle.mark_core.specs.declared.system.System.{System}
 use Rattle.mark_words.specs.Seats.{view, system_of}

@@ -1,3 +1,4 @@
+-- Answers of `settle`: what its calls ask for, and what it promises.
 use Rattle.std.proofs.Common.{◌≡◌, ℕ, Bool, true, ap, subst, sym, ◌∙◌}
 use Rattle.mark_core.specs.declared.system.System.{System}
 use Rattle.mark_machine.specs.declared.machine.View.{View}

@@ -1,3 +1,4 @@
+-- Answers of `visit`: what its calls ask for, and what it promises.
 use Rattle.std.proofs.Common.{◌<◌, true, false, refl, subst, sym}
 use Rattle.mark_core.specs.declared.system.System.{System}
 use Rattle.mark_machine.specs.declared.machine.Event.TheVariants.{LookAt, Take}

@@ -1,3 +1,4 @@
+-- Answers of `try_item`: what its calls ask for, and what it promises.
 use Rattle.std.proofs.Common.{true, false}
 use Rattle.mark_machine.specs.declared.machine.Event.TheVariants.{Take}
 use Rattle.mark_machine.specs.Machine.{view_after}

@@ -1,3 +1,4 @@
+-- Answers of `work`: what its calls ask for, and what it promises.
 use Rattle.std.proofs.Common.{Bool, List, subst, sym, ◌∙◌}
 use Rattle.mark_machine.specs.declared.machine.Event.TheVariants.{SeeIdle}
 use Rattle.mark_machine.specs.Machine.{view_after}

@@ -1,3 +1,4 @@
+-- Answers of `work_all`: what its calls ask for, and what it promises.
 use Rattle.std.proofs.Common.{rules, subst, sym}
 use denote.Param.Send.{sendable}
 use Rattle.mark_workers.specs.Ready.{Hired}

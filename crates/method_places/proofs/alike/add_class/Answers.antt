@@ -1,3 +1,4 @@
+-- Answers of `add_class`: what its calls ask for, and what it promises.
 use Rattle.std.proofs.Common.{◌+◌, ◌∙◌, ℕ, ap, get_or, subst, sym}
 use Rattle.class_pool.specs.Found.{IsMethod, named_at}
 use Rattle.class_pool.specs.declared.id.ClassId.TheVariants.{Prog}

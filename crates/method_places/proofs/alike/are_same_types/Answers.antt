@@ -1,3 +1,4 @@
+-- Answers of `are_same_types`: what its calls ask for, and what it promises.
 use Rattle.std.proofs.Common.{◌∙◌, ◌<◌, arith, length, refl, sym}
 use Rattle.std.proofs.lemmas.List.{get_or_default, take_more_same}
 use Rattle.method_places.proofs.alike.are_same_types.Goals as goal

@@ -1,3 +1,4 @@
+-- Answers of `groups_of`: what its calls ask for, and what it promises.
 use Rattle.method_places.proofs.Grouping.{class_grouped}
 use Rattle.method_places.proofs.alike.groups_of.Goals as goal
 

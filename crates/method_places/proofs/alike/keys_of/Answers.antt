@@ -1,3 +1,4 @@
+-- Answers of `keys_of`: what its calls ask for, and what it promises.
 use Rattle.item_numbers.proofs.SortedNeeds.{once_sorted}
 use Rattle.method_places.proofs.alike.keys_of.Goals as goal
 

@@ -1,3 +1,4 @@
+-- Answers of `marks_of`: what its calls ask for, and what it promises.
 use Rattle.std.proofs.Common.{◌≡◌, ◌∙◌, ◌<◌, List, ℕ, length, get_or, sym, ap, arith, ◌++◌, ◌∷◌, [], rules}
 use Rattle.std.proofs.lemmas.Option.{get_or_from_slice_get}
 use Rattle.jv_base.proofs.Lists.{mapped_more}

@@ -1,3 +1,4 @@
+-- Answers of `may_be_in`: what its calls ask for, and what it promises.
 use Rattle.std.proofs.Common.{◌∙◌, subst, sym}
 use Rattle.method_places.specs.bodies.Alike.{Knows}
 use Rattle.method_places.specs.declared.alike.Group.{Group}

@@ -1,3 +1,4 @@
+-- Answers of `with_method`: what its calls ask for, and what it promises.
 use Rattle.std.proofs.Common.{ap, arith, subst, sym, ◌∙◌, ◌≤◌}
 use Rattle.class_pool.specs.declared.id.ClassId.TheVariants.{Prog}
 use Rattle.jv_base.specs.Types.{method_text}

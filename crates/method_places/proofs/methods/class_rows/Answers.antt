@@ -1,3 +1,4 @@
+-- Answers of `class_rows`: what its calls ask for, and what it promises.
 use Rattle.std.proofs.Common.{arith, ◌∙◌}
 use Rattle.class_pool.specs.Found.{is_instance_method}
 use Rattle.class_pool.specs.declared.id.ClassId.TheVariants.{Prog}

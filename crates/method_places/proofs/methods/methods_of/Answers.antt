@@ -1,3 +1,4 @@
+-- Answers of `methods_of`: what its calls ask for, and what it promises.
 use Rattle.std.proofs.Common.{List, subst}
 use Rattle.std.specs.Option.{ForSome}
 use Rattle.class_model.specs.declared.class.Class.{Class}

@@ -1,3 +1,4 @@
+-- Answers of `next_item`: what its calls ask for, and what it promises.
 use Rattle.std.proofs.Common.{◌+◌, arith}
 use Rattle.class_pool.proofs.Counting.{class_item-le, class_item-next}
 use Rattle.method_places.proofs.methods.next_item.Goals as goal

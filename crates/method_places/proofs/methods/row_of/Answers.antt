@@ -1,3 +1,4 @@
+-- Answers of `row_of`: what its calls ask for, and what it promises.
 use Rattle.std.proofs.Common.{◌-◌, ◌+◌, ◌<◌, ◌∙◌, ℕ, arith, get_or, length, sym, ap, subst}
 use Rattle.std.proofs.lemmas.Option.{slice_get_within}
 use Rattle.class_pool.specs.Found.{IsMethod, named_at, rows_in}

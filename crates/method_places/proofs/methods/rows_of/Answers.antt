@@ -1,3 +1,4 @@
+-- Answers of `rows_of`: what its calls ask for, and what it promises.
 use Rattle.std.proofs.Common.{arith}
 use Rattle.method_places.proofs.InstanceRows.{rows_made}
 use Rattle.method_places.proofs.methods.rows_of.Goals as goal

@@ -1,3 +1,4 @@
+-- Answers of `note_chain`: what its calls ask for, and what it promises.
 use Rattle.std.proofs.Common.{◌++◌, ◌∙◌, [], List, subst, sym, take}
 use Rattle.std.specs.List.{flat_map}
 use Rattle.std.proofs.lemmas.Option.{get_or_from_slice_get}

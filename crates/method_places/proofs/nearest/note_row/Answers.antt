@@ -1,3 +1,4 @@
+-- Answers of `note_row`: what its calls ask for, and what it promises.
 use Rattle.std.proofs.Common.{Some, ◌∙◌, ap, arith, sym}
 use Rattle.std.proofs.lemmas.Bool.{eq-eqb}
 use Rattle.std.proofs.lemmas.Option.{slice_get-get_or}

@@ -1,3 +1,4 @@
+-- Answers of `note_rows`: what its calls ask for, and what it promises.
 use Rattle.std.proofs.Common.{◌++◌, List, subst, take}
 use Rattle.std.proofs.lemmas.List.{get_or_default}
 use Rattle.method_places.specs.bodies.Nearest.{AreNoted}

@@ -1,3 +1,4 @@
+-- Answers of `is_place`: what its calls ask for, and what it promises.
 use Rattle.std.proofs.Common.{◌-◌, ◌<◌, ℕ, length, nat_lt, arith}
 use Rattle.std.proofs.lemmas.Bool.{le-ltb}
 use Rattle.std.proofs.lemmas.List.Sums.{prefix_len_is}

@@ -1,3 +1,4 @@
+-- Answers of `part_rows`: what its calls ask for, and what it promises.
 use Rattle.std.proofs.Common.{[]}
 use Rattle.std.proofs.lemmas.List.{get_or_default}
 use Rattle.method_places.specs.bodies.Places.{part_row}

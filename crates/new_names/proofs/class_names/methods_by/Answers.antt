@@ -1,3 +1,4 @@
+-- Answers of `methods_by`: what its calls ask for, and what it promises.
 use Rattle.std.proofs.Common.{rules, ◌≡◌, ◌++◌, ◌∷◌, [], List, ap, ◌∙◌}
 use Rattle.std.specs.Map.{lookup}
 use Rattle.jv_base.specs.Types as descriptor

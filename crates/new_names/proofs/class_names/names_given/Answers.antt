@@ -1,3 +1,4 @@
+-- Answers of `names_given`: what its calls ask for, and what it promises.
 use Rattle.std.proofs.Common.{◌≡◌, Option, map, subst}
 use Rattle.std.specs.Prelude.{IfOk}
 use Rattle.std.specs.Option.{option_and_then, option_map}

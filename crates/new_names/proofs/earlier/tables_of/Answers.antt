@@ -1,3 +1,4 @@
+-- Answers of `tables_of`: what its calls ask for, and what it promises.
 use Rattle.std.proofs.Common.{refl, subst, sym, ◌∙◌}
 use Rattle.class_rename.specs.Names.{Tables}
 use Rattle.mapping_file.specs.declared.mapping.Mapping.{Mapping}

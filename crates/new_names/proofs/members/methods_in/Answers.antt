@@ -1,3 +1,4 @@
+-- Answers of `methods_in`: what its calls ask for, and what it promises.
 use Rattle.std.proofs.Common.{ℕ, List, [], sym, subst, refl}
 use Rattle.std.proofs.lemmas.List.{append-nil}
 use Rattle.new_names.specs.NewNames.{NameAndType, method_lines}

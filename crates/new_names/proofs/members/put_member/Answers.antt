@@ -1,3 +1,4 @@
+-- Answers of `put_member`: what its calls ask for, and what it promises.
 use Rattle.new_names.specs.NewNames.{is_same}
 use Rattle.new_names.proofs.Inserted.{put_found, same_Decides}
 use Rattle.new_names.proofs.members.put_member.Goals as goal

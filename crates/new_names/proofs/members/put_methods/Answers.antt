@@ -1,3 +1,4 @@
+-- Answers of `put_methods`: what its calls ask for, and what it promises.
 use Rattle.std.proofs.Common.{◌≡◌, ◌++◌, ◌∙◌, ℕ, List, Option, Some, cond, drop, sym, ap, arith}
 use Rattle.std.proofs.lemmas.List.{drop_all}
 use Rattle.std.specs.Map.{lookup}

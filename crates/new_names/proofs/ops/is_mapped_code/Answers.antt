@@ -1,3 +1,4 @@
+-- Answers of `is_mapped_code`: what its calls ask for, and what it promises.
 use Rattle.std.proofs.Common.{refl, arith}
 use Rattle.new_names.specs.Mapped.{mapped_ins_if}
 use Rattle.new_names.specs.NewNames.{names_of}

@@ -1,3 +1,4 @@
+-- Answers of `is_mapped_handlers`: what its calls ask for, and what it promises.
 use Rattle.std.proofs.Common.{refl, arith}
 use Rattle.class_rename.specs.Renamed.{renamed_handler}
 use Rattle.new_names.specs.NewNames.{names_of}

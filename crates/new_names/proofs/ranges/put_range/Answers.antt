@@ -1,3 +1,4 @@
+-- Answers of `put_range`: what its calls ask for, and what it promises.
 use Rattle.std.proofs.Common.{refl}
 use Rattle.jv_base.specs.Types.{method_text}
 use Rattle.new_names.specs.NewNames.{is_same}

@@ -1,3 +1,4 @@
+-- Answers of `classes_of`: what its calls ask for, and what it promises.
 use Rattle.std.proofs.Common.{◌≡◌, ◌∙◌, ℕ, Option, Some, cond, drop, ap, subst, arith}
 use Rattle.jv_base.specs.Names.{is_text}
 use Rattle.mapping_file.specs.declared.mapping.MapClass.{MapClass}

@@ -1,3 +1,4 @@
+-- Answers of `methods_of`: what its calls ask for, and what it promises.
 use Rattle.std.proofs.Common.{◌≡◌, ℕ, List, drop, sym, subst, arith}
 use Rattle.mapping_file.specs.declared.mapping.MapClass.{MapClass}
 use Rattle.new_names.specs.NewNames.{all_method_names}

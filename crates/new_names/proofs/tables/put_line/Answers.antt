@@ -1,3 +1,4 @@
+-- Answers of `put_line`: what its calls ask for, and what it promises.
 use Rattle.std.proofs.Common.{ap, refl, ◌∙◌}
 use Rattle.std.proofs.lemmas.Result.{on_ok_weaker}
 use Rattle.std.specs.Borrow.{Bor}

@@ -1,3 +1,4 @@
+-- Answers of `put_name`: what its calls ask for, and what it promises.
 use Rattle.jv_base.specs.Names.{is_text}
 use Rattle.jv_base.proofs.Equality.{text_Decides}
 use Rattle.new_names.proofs.Inserted.{put_found}

@@ -1,3 +1,4 @@
+-- Answers of `are_mapped_classes`: what its calls ask for, and what it promises.
 use Rattle.std.proofs.Common.{refl, arith}
 use Rattle.new_names.specs.NewNames.{names_of}
 use Rattle.new_names.proofs.Comparing.{alike, all_alike, all_left, apart, unlike}

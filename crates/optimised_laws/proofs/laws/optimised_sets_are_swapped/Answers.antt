@@ -1,3 +1,4 @@
+-- Answers of `optimised_sets_are_swapped`: what its calls ask for, and what it promises.
 use Rattle.optimised_laws.proofs.Swapped.{optimised_swapped}
 use Rattle.optimised_laws.proofs.Typed.{optimised_typed}
 use Rattle.optimised_laws.proofs.laws.optimised_sets_are_swapped.Goals as goal

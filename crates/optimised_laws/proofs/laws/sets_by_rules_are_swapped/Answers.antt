@@ -1,3 +1,4 @@
+-- Answers of `sets_by_rules_are_swapped`: what its calls ask for, and what it promises.
 use Rattle.optimised_laws.proofs.Swapped.{swapped_by_rules}
 use Rattle.optimised_laws.proofs.Typed.{typed_by_rules}
 use Rattle.optimised_laws.proofs.laws.sets_by_rules_are_swapped.Goals as goal

@@ -1,3 +1,4 @@
+-- Answers of `computed_optimised`: what its calls ask for, and what it promises.
 use Rattle.optimised_rows.proofs.Computed as computed
 use Rattle.optimised_rows.proofs.rows.computed_optimised.Goals as goal
 

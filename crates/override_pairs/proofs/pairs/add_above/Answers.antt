@@ -1,8 +1,10 @@
+-- Answers of `add_above`: what its calls ask for, and what it promises.
 use Rattle.std.proofs.Common.{◌+◌, ◌∙◌, ◌≡◌, ℕ, List, subst, sym}
 use Rattle.mark_core.specs.declared.system.Pair.{Pair}
 use Rattle.class_pool.specs.Walk.{superclasses_from}
 use Rattle.class_pool.specs.declared.id.ClassId.{ClassId}
 use Rattle.class_pool.specs.declared.id.ClassId.TheVariants.{Prog}
+use Rattle.override_pairs.specs.bodies.Above.{AreSteps}
 use Rattle.override_pairs.specs.bodies.Counting.{AddsPairs}
 use Rattle.method_places.specs.bodies.Nearest.{AreNoted, front_rows}
 use Rattle.item_numbers.specs.bodies.Selecting.{pairs_in}
@@ -13,6 +15,7 @@ use Rattle.override_pairs.proofs.CountedPairs.{no_pair}
 use Rattle.item_numbers.proofs.Meeting.{chain_there}
 use Rattle.override_pairs.proofs.CountedPairs.{none_above}
 use Rattle.method_places.proofs.Noting.{classes_before}
+use Rattle.override_pairs.proofs.FreeRuns.{free_count}
 use Rattle.override_pairs.proofs.PackageRows.{each_count, opening_count}
 use Rattle.override_pairs.proofs.pairs.add_above.Goals as goal
 
@@ -46,6 +49,12 @@ note_chain-requires-3-clause-classes c =
     ∙ c.requires.methods.count)
     (chain_there c.args.numbered.now.set.now c.args.top c.args.chain.now c.requires.top c.requires.chain)
 
+pub note_chain-requires-4-clause-classes : goal.note_chain-requires-4-clause-classes
+note_chain-requires-4-clause-classes c =
+    classes_before c.args.numbered.now.set.now _ c.args.chain.now
+    (free_count c.args.methods.now.of_classes c.args.free.now c.requires.free ∙ c.requires.methods.count)
+    (chain_there c.args.numbered.now.set.now c.args.top c.args.chain.now c.requires.top c.requires.chain)
+
 -- what is noted along a chain, as a list
 along : (table : List (List InstanceMethod)) (stamp : ℕ) (chain whole : List ClassId) (notes list : List Note)
     → chain ≡ whole → list ≡ notes → AreNoted stamp (front_rows table chain) notes
@@ -61,7 +70,9 @@ add_each-requires-clause-receiver c =
     record {
       there = c.requires.top;
       rows = c.requires.methods;
-      below = subst (AreAbove set) (sym c.as_slice.ensures.value) c.mark_above.ensures;
+      below = subst (AreAbove set) (sym c.as_slice.ensures.value) c.mark_above.ensures.below;
+      steps = subst (λ (t : List ℕ). AreSteps set t c.as_slice-5.result.now) (sym c.as_slice.ensures.value)
+          (subst (AreSteps set _) (sym c.as_slice-5.ensures.value) c.mark_above.ensures.steps);
       noted = along c.args.methods.now.of_classes (c.args.number + 1) c.args.chain.now whole _ _ c.requires.chain
           c.as_slice-2.ensures.value c.note_chain.ensures.noted;
       places = c.requires.places;
@@ -69,4 +80,7 @@ add_each-requires-clause-receiver c =
           c.as_slice-3.ensures.value c.note_chain-2.ensures.noted;
       opening = along c.args.places.now.opening (c.args.number + 1) c.args.chain.now whole _ _ c.requires.chain
           c.as_slice-4.ensures.value c.note_chain-3.ensures.noted;
+      free = c.requires.free;
+      freed = along c.args.free.now.rows (c.args.number + 1) c.args.chain.now whole _ _ c.requires.chain
+          c.as_slice-6.ensures.value c.note_chain-4.ensures.noted;
     }

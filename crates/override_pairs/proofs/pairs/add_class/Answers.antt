@@ -1,3 +1,4 @@
+-- Answers of `add_class`: what its calls ask for, and what it promises.
 use Rattle.std.proofs.Common.{List, ap, map, sym, subst, ◌∙◌}
 use Rattle.std.specs.Prelude.{OnOk}
 use Rattle.std.proofs.lemmas.Option.{slice_get_within}

@@ -1,3 +1,4 @@
+-- Answers of `add_each`: what its calls ask for, and what it promises.
 use Rattle.std.proofs.Common.{arith, get_or}
 use Rattle.std.proofs.lemmas.List.{get_or_default}
 use Rattle.override_pairs.proofs.CountedPairs.{pairs_all, pairs_more}

@@ -1,3 +1,4 @@
+-- Answers of `add_of`: what its calls ask for, and what it promises.
 use Rattle.std.proofs.Common.{List, [], subst, sym, ◌∙◌}
 use Rattle.std.specs.Prelude.{OnOk}
 use Rattle.std.proofs.lemmas.Option.{get_or_from_slice_get}

@@ -1,3 +1,4 @@
+-- Answers of `add_row`: what its calls ask for, and what it promises.
 use Rattle.std.proofs.Common.{◌∙◌, Bool, [], Option, ap, not, subst, sym}
 use Rattle.std.specs.Prelude.{OnOk, if◌then◌else◌}
 use Rattle.std.specs.List.{cons_option}

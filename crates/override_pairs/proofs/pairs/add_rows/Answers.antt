@@ -1,3 +1,4 @@
+-- Answers of `add_rows`: what its calls ask for, and what it promises.
 use Rattle.std.proofs.Common.{List, arith, map, subst}
 use Rattle.std.specs.List.{filter, filter_map}
 use Rattle.std.proofs.lemmas.List.{get_or_default, take_all}

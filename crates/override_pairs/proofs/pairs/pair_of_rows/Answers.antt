@@ -1,3 +1,4 @@
+-- Answers of `pair_of_rows`: what its calls ask for, and what it promises.
 use Rattle.std.proofs.Common.{◌∙◌, sym}
 use Rattle.method_places.proofs.InstanceRows.{pair_items, pair_itself}
 use Rattle.override_pairs.proofs.pairs.pair_of_rows.Goals as goal

@@ -1,3 +1,4 @@
+-- Answers of `pair_selected`: what its calls ask for, and what it promises.
 use Rattle.std.proofs.Common.{subst, sym}
 use Rattle.class_pool.specs.Found.{IsMember}
 use Rattle.method_places.proofs.InstanceRows.{instance_there, listed_row}

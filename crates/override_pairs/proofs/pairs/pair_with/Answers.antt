@@ -1,3 +1,4 @@
+-- Answers of `pair_with`: what its calls ask for, and what it promises.
 use Rattle.std.proofs.Common.{◌≡◌, ◌∙◌, IfSome, Option, Some, ap, subst, sym}
 use Rattle.std.specs.Option.{option_and_then}
 use Rattle.class_pool.specs.Selection.{selected}

@@ -1,3 +1,4 @@
+-- Answers of `pairs_of`: what its calls ask for, and what it promises.
 use Rattle.std.proofs.Common.{List, refl, rules, subst}
 use Rattle.mark_core.specs.declared.system.Pair.{Pair}
 use Rattle.require_sys.specs.Requires.{class_pairs}

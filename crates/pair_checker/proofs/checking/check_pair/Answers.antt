@@ -1,3 +1,4 @@
+-- Answers of `check_pair`: what its calls ask for, and what it promises.
 use Rattle.rule_system.proofs.SystemDue.{due_is}
 use Rattle.pair_checker.proofs.checking.check_pair.Goals as goal
 

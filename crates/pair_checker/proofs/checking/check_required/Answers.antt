@@ -1,3 +1,4 @@
+-- Answers of `check_required`: what its calls ask for, and what it promises.
 use Rattle.std.proofs.lemmas.Result.{err_from_is_err_and}
 use Rattle.pair_checker.proofs.Reading.{matched, refused_by_files}
 use Rattle.pair_checker.proofs.Sounding.{accepted_sound}

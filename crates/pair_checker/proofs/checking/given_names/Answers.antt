@@ -1,3 +1,4 @@
+-- Answers of `given_names`: what its calls ask for, and what it promises.
 use Rattle.std.proofs.Common.{map, arith}
 use Rattle.new_names.specs.NewNames.{names_given}
 use Rattle.pair_clauses.proofs.Zipped.{beyond}

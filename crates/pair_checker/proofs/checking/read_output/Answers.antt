@@ -1,3 +1,4 @@
+-- Answers of `read_output`: what its calls ask for, and what it promises.
 use Rattle.std.proofs.Common.{List, inl, inr, subst, ap, ◌∙◌}
 use Rattle.tree_io.specs.declared.file_at.FileAt.{FileAt}
 use Rattle.set_read.specs.Accepted.{IsAccepted}

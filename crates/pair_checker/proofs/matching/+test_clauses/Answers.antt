@@ -1,3 +1,4 @@
+-- Answers of `+test_clauses`: what its calls ask for, and what it promises.
 use Rattle.pair_checker.proofs.InOrder.{tests_next}
 use Rattle.pair_checker.proofs.matching.+test_clauses.Goals as goal
 

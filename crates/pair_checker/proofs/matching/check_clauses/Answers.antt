@@ -1,3 +1,4 @@
+-- Answers of `check_clauses`: what its calls ask for, and what it promises.
 use Rattle.pair_checker.proofs.InOrder.{matches_by}
 use Rattle.pair_checker.proofs.matching.check_clauses.Goals as goal
 

@@ -1,3 +1,4 @@
+-- Answers of `place_of`: what its calls ask for, and what it promises.
 use Rattle.std.proofs.Common.{sym, subst}
 use Rattle.std.specs.Prelude.{IfOk}
 use Rattle.pair_checker.specs.Clauses.{Finds}

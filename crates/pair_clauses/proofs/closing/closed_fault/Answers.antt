@@ -1,3 +1,4 @@
+-- Answers of `closed_fault`: what its calls ask for, and what it promises.
 use Rattle.std.proofs.Common.{sym, ◌∙◌}
 use Rattle.class_pool.specs.Count.{item_count}
 use Rattle.pair_clauses.proofs.Needed.{item_below}

@@ -1,3 +1,4 @@
+-- Answers of `lacking`: what its calls ask for, and what it promises.
 use Rattle.std.proofs.Common.{List, ap, sym, ◌∙◌, arith}
 use Rattle.std.specs.List.{flat_map}
 use Rattle.mark_core.specs.declared.system.Pair.{Pair}

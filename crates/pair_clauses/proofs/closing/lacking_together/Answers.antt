@@ -1,3 +1,4 @@
+-- Answers of `lacking_together`: what its calls ask for, and what it promises.
 use Rattle.std.proofs.Common.{Bool, get_or, sym, ap, ◌∙◌}
 use Rattle.std.specs.Prelude.{if◌then◌else◌}
 use Rattle.std.proofs.lemmas.Option.{slice_get-get_or}

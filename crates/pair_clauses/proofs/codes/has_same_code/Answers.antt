@@ -1,3 +1,4 @@
+-- Answers of `has_same_code`: what its calls ask for, and what it promises.
 use Rattle.std.proofs.Common.{ap}
 use Rattle.std.specs.Option.{option_copied}
 use Rattle.pair_clauses.proofs.Bodies.{both_bodies, no_bodies, ok_on}

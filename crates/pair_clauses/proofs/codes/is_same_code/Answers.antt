@@ -1,3 +1,4 @@
+-- Answers of `is_same_code`: what its calls ask for, and what it promises.
 use Rattle.class_rename.specs.Renamed.{renamed_handler}
 use Rattle.std.proofs.Common.{map, ap, sym, ◌∙◌}
 use Rattle.new_names.specs.NewNames.{names_of}

@@ -1,3 +1,4 @@
+-- Answers of `fixed_among`: what its calls ask for, and what it promises.
 use Rattle.std.proofs.Common.{sym, ◌∙◌, arith}
 use Rattle.pair_clauses.specs.FixedNames.{fixed_in}
 use Rattle.pair_clauses.specs.bodies.FixedKinds.{fixed_kinds}

@@ -1,3 +1,4 @@
+-- Answers of `fixed_fault`: what its calls ask for, and what it promises.
 use Rattle.std.proofs.Common.{◌≡◌, ◌∙◌, subst}
 use Rattle.std.specs.Prelude.{IfOk}
 use Rattle.pair_clauses.specs.FixedNames.{Fixed, fixed_fault}

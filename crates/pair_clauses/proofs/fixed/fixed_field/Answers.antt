@@ -1,3 +1,4 @@
+-- Answers of `fixed_field`: what its calls ask for, and what it promises.
 use Rattle.std.proofs.Common.{Some, sym, ap, ◌∙◌}
 use Rattle.std.specs.Option.{option_copied}
 use Rattle.pair_clauses.specs.FixedNames.{field_fault, is_among, is_renamed}

@@ -1,3 +1,4 @@
+-- Answers of `fixed_method`: what its calls ask for, and what it promises.
 use Rattle.std.proofs.Common.{Some, sym, ap, ◌∙◌}
 use Rattle.std.specs.Option.{option_copied}
 use Rattle.jv_base.specs.Types.{method_text}

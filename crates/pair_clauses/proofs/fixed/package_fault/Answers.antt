@@ -1,3 +1,4 @@
+-- Answers of `package_fault`: what its calls ask for, and what it promises.
 use Rattle.std.proofs.Common.{Some, sym, ap, ◌∙◌, arith}
 use Rattle.pair_clauses.specs.FixedNames.{is_moved, moved_in}
 use Rattle.pair_clauses.specs.Places.{class_place}

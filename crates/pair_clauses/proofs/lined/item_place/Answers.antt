@@ -1,3 +1,4 @@
+-- Answers of `item_place`: what its calls ask for, and what it promises.
 use Rattle.std.proofs.Common.{◌≡◌, Option, Some, slice_get, sym, ap, subst, ◌∙◌}
 use Rattle.std.specs.Prelude.{IfOk}
 use Rattle.pair_clauses.specs.Places.{item_places}

@@ -1,3 +1,4 @@
+-- Answers of `member_place`: what its calls ask for, and what it promises.
 use Rattle.std.proofs.Common.{Some, sym, ap, ◌∙◌}
 use Rattle.pair_clauses.proofs.Bodies.{ok_on}
 use Rattle.pair_clauses.proofs.Standing.{field_there, method_there}

@@ -1,3 +1,4 @@
+-- Answers of `standing_of`: what its calls ask for, and what it promises.
 use Rattle.std.proofs.Common.{◌+◌, ◌<◌, arith}
 use Rattle.class_pool.specs.Count.{item_count}
 use Rattle.class_pool.specs.Items.{class_item}

@@ -1,3 +1,4 @@
+-- Answers of `class_differs`: what its calls ask for, and what it promises.
 use Rattle.std.proofs.Common.{sym, subst, ◌∙◌}
 use Rattle.pair_clauses.specs.Finding.{FindsUnless, FirstUnlike, Then}
 use Rattle.pair_clauses.specs.Members.{IsSameClass, IsSameField, MethodsDiffer, NewField, expected_fields}

@@ -1,3 +1,4 @@
+-- Answers of `compare_methods`: what its calls ask for, and what it promises.
 use Rattle.std.proofs.Common.{◌≡◌, ◌+◌, ℕ, true, false, Some, length, sym, ap, subst, ◌∙◌, arith}
 use Rattle.std.specs.List.{filter_map, zip}
 use Rattle.pair_clauses.specs.Finding.{FirstUnlike}

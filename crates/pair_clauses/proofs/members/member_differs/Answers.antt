@@ -1,3 +1,4 @@
+-- Answers of `member_differs`: what its calls ask for, and what it promises.
 use Rattle.std.proofs.Common.{sym, ◌∙◌, arith}
 use Rattle.class_model.specs.declared.class.Class.{Class}
 use Rattle.new_names.specs.declared.class_names.ClassNames.{ClassNames}

@@ -1,3 +1,4 @@
+-- Answers of `has_line_outside`: what its calls ask for, and what it promises.
 use Rattle.std.proofs.Common.{ap, ◌∙◌}
 use Rattle.std.specs.List.{list_any}
 use Rattle.class_model.specs.declared.code.Ins.{Ins}

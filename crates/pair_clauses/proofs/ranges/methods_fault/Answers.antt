@@ -1,3 +1,4 @@
+-- Answers of `methods_fault`: what its calls ask for, and what it promises.
 use Rattle.std.proofs.Common.{◌+◌, Some, sym, ap, ◌∙◌, arith}
 use Rattle.jv_base.proofs.Options.{some_there}
 use Rattle.pair_clauses.proofs.Ranged.{leaving_done, leaving_from, leaving_here, leaving_on, leaving_unnamed, range_at}

@@ -1,3 +1,4 @@
+-- Answers of `is_line_at_fault`: what its calls ask for, and what it promises.
 use Rattle.std.proofs.Common.{Bool, map, not, ap, sym, ◌∙◌}
 use Rattle.std.specs.Prelude.{◌||◌}
 use Rattle.std.specs.List.{list_any}

@@ -1,3 +1,4 @@
+-- Answers of `is_method_at_fault`: what its calls ask for, and what it promises.
 use Rattle.std.proofs.Common.{◌++◌, map, sym, ◌∙◌}
 use Rattle.pair_clauses.specs.Shape.{method_named, method_pairs}
 use Rattle.pair_clauses.proofs.Lining.{method_seen}

@@ -1,3 +1,4 @@
+-- Answers of `is_stray`: what its calls ask for, and what it promises.
 use Rattle.std.proofs.Common.{Bool, not, ap, sym, ◌∙◌}
 use Rattle.std.specs.Prelude.{◌||◌}
 use Rattle.std.specs.List.{list_any}

@@ -1,3 +1,4 @@
+-- Answers of `shape_fault`: what its calls ask for, and what it promises.
 use Rattle.std.proofs.Common.{◌≡◌, true, List, [], Option, None, Some, is_some, sym, ap, subst, ◌∙◌}
 use Rattle.std.specs.Option.{option_or}
 use Rattle.mapping_file.specs.declared.mapping.MapClass.{MapClass}

@@ -1,3 +1,4 @@
+-- Answers of `unlined_fault`: what its calls ask for, and what it promises.
 use Rattle.std.proofs.Common.{Some, false, true, not, sym, ap, ◌∙◌}
 use Rattle.std.specs.List.{list_any}
 use Rattle.jv_base.specs.Names.{is_text}

@@ -1,3 +1,4 @@
+-- Answers of `after_steps`: what its calls ask for, and what it promises.
 use Rattle.std.proofs.Common.{Some, None, subst}
 use Rattle.std.specs.Option.{unwrap_or}
 use Rattle.class_model.specs.declared.code.Code.{Code}

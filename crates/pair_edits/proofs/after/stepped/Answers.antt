@@ -1,3 +1,4 @@
+-- Answers of `stepped`: what its calls ask for, and what it promises.
 use Rattle.std.proofs.Common.{sym, subst}
 use Rattle.code_edit.specs.SoundCode.{IsSound}
 use Rattle.edit_premises.proofs.EditedSound.{applied_sound}

@@ -1,3 +1,4 @@
+-- Answers of `body_differs`: what its calls ask for, and what it promises.
 use Rattle.std.proofs.Common.{◌≡◌, ◌+◌, ℕ, true, false, Some, map, sym, ap, subst, ◌∙◌, arith}
 use Rattle.std.proofs.lemmas.List.{length-map}
 use Rattle.std.specs.List.{filter_map, zip}

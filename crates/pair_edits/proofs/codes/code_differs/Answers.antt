@@ -1,3 +1,4 @@
+-- Answers of `code_differs`: what its calls ask for, and what it promises.
 use Rattle.std.proofs.Common.{map, ap, sym, ◌∙◌, arith}
 use Rattle.std.specs.Option.{option_map}
 use Rattle.std.proofs.lemmas.Option.{slice_get-map}

@@ -1,3 +1,4 @@
+-- Answers of `put_entry`: what its calls ask for, and what it promises.
 use Rattle.std.proofs.Common.{◌≡◌, Some, subst}
 use Rattle.std.specs.Prelude.{if◌then◌else◌, OnOk}
 use Rattle.std.specs.Borrow.{Bor}

@@ -1,3 +1,4 @@
+-- Answers of `table_of`: what its calls ask for, and what it promises.
 use Rattle.std.proofs.Common.{◌≡◌, ◌∙◌, ℕ, Option, Some, cond, drop, ap, subst, arith}
 use Rattle.witness_file.specs.declared.witness.MethodWitness.{MethodWitness}
 use Rattle.pair_edits.specs.bodies.Tables.{TellsEntries, is_same, key_of}

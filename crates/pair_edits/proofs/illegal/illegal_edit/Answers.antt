@@ -1,3 +1,4 @@
+-- Answers of `illegal_edit`: what its calls ask for, and what it promises.
 use Rattle.std.proofs.Common.{sym, ◌∙◌, arith}
 use Rattle.jv_base.proofs.Lists.{all_at}
 use Rattle.pair_clauses.proofs.Zipped.{beyond}

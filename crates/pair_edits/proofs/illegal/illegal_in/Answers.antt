@@ -1,3 +1,4 @@
+-- Answers of `illegal_in`: what its calls ask for, and what it promises.
 use Rattle.std.proofs.Common.{◌≡◌, List, Some, None, slice_get, refl, subst}
 use Rattle.class_model.specs.declared.class.Method.{Method}
 use Rattle.pair_clauses.specs.Finding.{FindsUnless}

@@ -1,3 +1,4 @@
+-- Answers of `is_kept`: what its calls ask for, and what it promises.
 use Rattle.std.proofs.Common.{◌-◌, ◌&&◌, ◌∙◌, ℕ, Bool, Some, None, is_some, slice_get}
 use Rattle.std.proofs.Common.{sym, ap, arith}
 use Rattle.std.specs.Option.{option_copied}

@@ -1,3 +1,4 @@
+-- Answers of `put_entry`: what its calls ask for, and what it promises.
 use Rattle.std.proofs.Common.{ap, map, not, sym, ◌∙◌}
 use Rattle.std.proofs.lemmas.Result.{IfOk-weaker, on_ok_weaker}
 use Rattle.std.specs.List.{list_any}

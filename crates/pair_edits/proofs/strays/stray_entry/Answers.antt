@@ -1,3 +1,4 @@
+-- Answers of `stray_entry`: what its calls ask for, and what it promises.
 use Rattle.std.proofs.Common.{◌≡◌, List, [], take, Some, slice_get, sym, subst, ◌∙◌}
 use Rattle.witness_file.specs.declared.witness.MethodWitness.{MethodWitness}
 use Rattle.pair_clauses.proofs.Zipped.{got}

@@ -1,3 +1,4 @@
+-- Answers of `optimised_can_be_written`: what its calls ask for, and what it promises.
 use Rattle.pair_laws.proofs.OptimisedPairs.OptimisedSet.{PassLaws}
 use Rattle.pair_laws.proofs.OptimisedPairs.Kept.{keeps_writable}
 use Rattle.pair_laws.proofs.named_form.optimised_can_be_written.Goals as goal

@@ -1,3 +1,4 @@
+-- Answers of `own_files_are_found_again`: what its calls ask for, and what it promises.
 use Rattle.pair_laws.proofs.OptimisedPairs.OptimisedSet.{PassLaws}
 use Rattle.pair_laws.proofs.OwnChecked.Own.{files_found_again}
 use Rattle.pair_laws.proofs.own_checked.own_files_are_found_again.Goals as goal

@@ -1,3 +1,4 @@
+-- Answers of `own_texts_are_read`: what its calls ask for, and what it promises.
 use Rattle.pair_laws.proofs.OptimisedPairs.OptimisedSet.{PassLaws}
 use Rattle.pair_laws.proofs.OwnMapping.Own.{own_is_mapping, own_mapping_is_read, own_witness_is_read}
 use Rattle.pair_laws.proofs.own_mapping.own_texts_are_read.Goals as goal

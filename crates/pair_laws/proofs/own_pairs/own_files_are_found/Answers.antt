@@ -1,3 +1,4 @@
+-- Answers of `own_files_are_found`: what its calls ask for, and what it promises.
 use Rattle.pair_laws.proofs.OwnPairs.Found.{files_below, files_found}
 use Rattle.pair_laws.proofs.own_pairs.own_files_are_found.Goals as goal
 

@@ -1,3 +1,4 @@
+-- Answers of `own_files_are_paired`: what its calls ask for, and what it promises.
 use Rattle.pair_laws.proofs.OptimisedPairs.OptimisedSet.{PassLaws}
 use Rattle.pair_laws.proofs.OwnPairs.Own.{own_paired}
 use Rattle.pair_laws.proofs.own_pairs.own_files_are_paired.Goals as goal

@@ -1,3 +1,4 @@
+-- Answers of `own_pairs_are_taken`: what its calls ask for, and what it promises.
 use Rattle.pair_laws.proofs.OptimisedPairs.OptimisedSet.{PassLaws}
 use Rattle.pair_laws.proofs.OwnPairs.Own.{own_accepted, own_pairs}
 use Rattle.pair_laws.proofs.own_pairs.own_pairs_are_taken.Goals as goal

@@ -1,3 +1,4 @@
+-- Answers of `renamed_is_writable`: what its calls ask for, and what it promises.
 use Rattle.pair_laws.proofs.RenamedForm.Formed.{counts_fit, formed}
 use Rattle.pair_laws.proofs.RenamedForm.Valued.{class_valued}
 use Rattle.pair_laws.proofs.renamed_form.renamed_is_writable.Goals as goal

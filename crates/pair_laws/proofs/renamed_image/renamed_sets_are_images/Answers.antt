@@ -1,3 +1,4 @@
+-- Answers of `renamed_sets_are_images`: what its calls ask for, and what it promises.
 use Rattle.std.proofs.Common.{refl}
 use Rattle.pair_laws.proofs.RenamedImage.Join.{renamed_image}
 use Rattle.pair_laws.proofs.renamed_image.renamed_sets_are_images.Goals as goal

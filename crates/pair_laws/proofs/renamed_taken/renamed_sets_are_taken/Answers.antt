@@ -1,3 +1,4 @@
+-- Answers of `renamed_sets_are_taken`: what its calls ask for, and what it promises.
 use Rattle.pair_laws.proofs.RenamedTaken.Whole.{built_again, links_right, same_count, taken_again}
 use Rattle.pair_laws.proofs.renamed_taken.renamed_sets_are_taken.Goals as goal
 

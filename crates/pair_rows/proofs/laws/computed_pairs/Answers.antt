@@ -1,3 +1,4 @@
+-- Answers of `computed_pairs`: what its calls ask for, and what it promises.
 use Rattle.pair_rows.proofs.Answered as answered
 use Rattle.pair_rows.proofs.Lines as lines
 use Rattle.pair_rows.proofs.Required as required

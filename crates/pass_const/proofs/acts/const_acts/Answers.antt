@@ -1,3 +1,4 @@
+-- Answers of `const_acts`: what its calls ask for, and what it promises.
 use Rattle.std.proofs.Common.{ap, true, false, ◌∙◌}
 use Rattle.code_edit.specs.ConstEdits.{is_beyond}
 use Rattle.pass_const.specs.Taking.{count_marks}

@@ -1,3 +1,4 @@
+-- Answers of `listed_acts`: what its calls ask for, and what it promises.
 use Rattle.std.proofs.Common.{◌++◌, ◌<◌, ◌∙◌, ap, false, length, map, subst, sym}
 use Rattle.std.specs.List.{flat_map}
 use Rattle.std.specs.Option.{is_some}

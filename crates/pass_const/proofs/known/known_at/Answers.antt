@@ -1,3 +1,4 @@
+-- Answers of `known_at`: what its calls ask for, and what it promises.
 use Rattle.std.proofs.Common.{ap, ◌∙◌}
 use Rattle.code_edit.specs.ConstEdits.{known_by}
 use Rattle.pass_const.specs.Known.{known_in}

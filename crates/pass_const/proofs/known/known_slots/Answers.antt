@@ -1,3 +1,4 @@
+-- Answers of `known_slots`: what its calls ask for, and what it promises.
 use Rattle.std.proofs.Common.{◌+◌, ◌≡◌, true, ap, sym, subst}
 use Rattle.edit_tables.specs.Marks.{has}
 use Rattle.pass_const.specs.Known.{KnowsSlots}

@@ -1,3 +1,4 @@
+-- Answers of `push_all_runs`: what its calls ask for, and what it promises.
 use Rattle.std.proofs.Common.{◌+◌, ◌<◌, length, drop, get_or, ap, drop-cons, add-one, false}
 use Rattle.code_edit.specs.ConstEdits.{Shut, runs}
 use Rattle.pass_const.specs.Known.{known_in}

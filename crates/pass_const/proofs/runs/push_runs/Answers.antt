@@ -1,3 +1,4 @@
+-- Answers of `push_runs`: what its calls ask for, and what it promises.
 use Rattle.std.proofs.Common.{◌+◌, ◌<◌, length, drop, get_or, ap, drop-cons, add-one}
 use Rattle.std.specs.Prelude.{None}
 use Rattle.pass_const.specs.Running.{run_of}

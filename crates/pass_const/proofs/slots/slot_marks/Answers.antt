@@ -1,3 +1,4 @@
+-- Answers of `slot_marks`: what its calls ask for, and what it promises.
 use Rattle.std.proofs.Common.{◌≡◌, ◌≤◌, ◌∙◌, length, ap, arith}
 use Rattle.pass_const.proofs.Marking.{spread_length}
 use Rattle.pass_const.proofs.slots.slot_marks.Goals as goal

@@ -1,3 +1,4 @@
+-- Answers of `judged`: what its calls ask for, and what it promises.
 use Rattle.std.proofs.Common.{sym, subst}
 use Rattle.class_model.specs.declared.code.Code.{Code}
 use Rattle.pass_driver.specs.Outcomes.{IsTypedWith}

@@ -1,3 +1,4 @@
+-- Answers of `optimise_parts`: what its calls ask for, and what it promises.
 use Rattle.std.proofs.Common.{◌≡◌, ◌∙◌, List, ap, max, subst, sym, arith}
 use Rattle.std.specs.Borrow.{Bor}
 use Rattle.std.specs.List.{All}

@@ -1,3 +1,4 @@
+-- Answers of `optimise_spots`: what its calls ask for, and what it promises.
 use Rattle.std.proofs.Common.{◌<◌, subst, take, length, arith}
 use Rattle.std.proofs.Common.{List}
 use Rattle.std.specs.Prelude.{slice_index_or}

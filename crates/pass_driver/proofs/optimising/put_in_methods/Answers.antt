@@ -1,3 +1,4 @@
+-- Answers of `put_in_methods`: what its calls ask for, and what it promises.
 use Rattle.std.proofs.Common.{◌≤◌, sym, length, arith}
 use Rattle.type_verifier.specs.WithCode.{method_with_code}
 use Rattle.pass_driver.proofs.Spotting.{changed_out}

@@ -1,3 +1,4 @@
+-- Answers of `put_spot`: what its calls ask for, and what it promises.
 use Rattle.std.proofs.Common.{◌≡◌, ◌+◌, ◌++◌, List, subst}
 use Rattle.class_model.specs.declared.class.Class.{Class}
 use Rattle.pass_driver.specs.Optimised.{code_for, entry_for, fallback_for}

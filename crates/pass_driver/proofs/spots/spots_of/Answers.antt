@@ -1,3 +1,4 @@
+-- Answers of `spots_of`: what its calls ask for, and what it promises.
 use Rattle.std.proofs.Common.{◌≡◌, ◌+◌, length, arith}
 use Rattle.class_pool.specs.Count.{items_of}
 use Rattle.pass_driver.specs.Optimised.{spots}

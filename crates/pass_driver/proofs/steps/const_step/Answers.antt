@@ -1,3 +1,4 @@
+-- Answers of `const_step`: what its calls ask for, and what it promises.
 use Rattle.std.proofs.Common.{sym, subst}
 use Rattle.class_model.specs.declared.code.Code.{Code}
 use Rattle.code_edit.specs.Facts.{IsAllReached}

@@ -1,3 +1,4 @@
+-- Answers of `put_act_step`: what its calls ask for, and what it promises.
 use Rattle.std.proofs.Common.{Some, ◌∙◌, ap, refl}
 use Rattle.class_model.specs.declared.code.Code.{Code}
 use Rattle.frame_rebuild.specs.Rebuilt.{rebuilt}

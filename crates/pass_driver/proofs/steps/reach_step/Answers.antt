@@ -1,3 +1,4 @@
+-- Answers of `reach_step`: what its calls ask for, and what it promises.
 use Rattle.std.proofs.Common.{subst}
 use Rattle.std.proofs.lemmas.Result.{IfOk-weaker}
 use Rattle.code_edit.specs.Facts.{IsAllReached}

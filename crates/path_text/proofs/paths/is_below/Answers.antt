@@ -1,3 +1,4 @@
+-- Answers of `is_below`: what its calls ask for, and what it promises.
 use Rattle.path_text.proofs.Below.{below_rest, not_below}
 use Rattle.path_text.proofs.paths.is_below.Goals as goal
 

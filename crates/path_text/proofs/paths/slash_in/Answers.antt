@@ -1,3 +1,4 @@
+-- Answers of `slash_in`: what its calls ask for, and what it promises.
 use Rattle.path_text.proofs.Segments.{inside_or_none, first_or_none, only_or_some}
 use Rattle.path_text.proofs.paths.slash_in.Goals as goal
 

@@ -1,3 +1,4 @@
+-- Answers of `without_slash`: what its calls ask for, and what it promises.
 use Rattle.std.proofs.Common.{ap, sym, ◌∙◌, arith}
 use Rattle.std.proofs.lemmas.Str.Pattern.{strip_suffix_char}
 use Rattle.std.proofs.Common.{None, Some}

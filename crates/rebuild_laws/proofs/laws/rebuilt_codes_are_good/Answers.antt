@@ -1,3 +1,4 @@
+-- Answers of `rebuilt_codes_are_good`: what its calls ask for, and what it promises.
 use Rattle.rebuild_laws.proofs.Kept.{rebuilt_follows}
 use Rattle.rebuild_laws.proofs.Naming.{rebuilt_less}
 use Rattle.rebuild_laws.proofs.laws.rebuilt_codes_are_good.Goals as goal

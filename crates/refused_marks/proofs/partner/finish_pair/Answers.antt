@@ -1,3 +1,4 @@
+-- Answers of `finish_pair`: what its calls ask for, and what it promises.
 use Rattle.std.proofs.Common.{subst, sym, ◌∙◌}
 use Rattle.std.specs.List.{Contains}
 use Rattle.std.proofs.lemmas.List.Elements.{Contains-push}

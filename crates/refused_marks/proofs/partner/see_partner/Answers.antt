@@ -1,3 +1,4 @@
+-- Answers of `see_partner`: what its calls ask for, and what it promises.
 use Rattle.std.proofs.Common.{subst, sym, inl, inr, refl, ◌∙◌}
 use Rattle.std.specs.List.{Contains}
 use Rattle.mark_machine.specs.declared.machine.View.{View}

@@ -1,3 +1,4 @@
+-- Answers of `closed_removal_is_image`: what its calls ask for, and what it promises.
 use Rattle.std.proofs.Common.{refl}
 use Rattle.removal_laws.proofs.RemovalImage.Marked.{image, selected_kept, starts_kept}
 use Rattle.removal_laws.proofs.removal_image.closed_removal_is_image.Goals as goal

@@ -1,4 +1,5 @@
-use Rattle.std.proofs.Common.{ℕ, List, Bool, ◌∙◌, sym, subst}
+-- Answers of `fixed_classes`: what its calls ask for, and what it promises.
+use Rattle.std.proofs.Common.{ℕ, List, sym, subst}
 use Rattle.keep_match.specs.Fixed.{fixed_rows}
 use Rattle.keep_match.specs.declared.fixed.Fixes.TheVariants as fixes
 use Rattle.fresh_names.specs.Reserved.{reserved}
@@ -17,9 +18,7 @@ returns c =
     let own = of_each choose.Class (fixed_rows fixes.Classes c.args.rules.now input) input in
     let told = of_each choose.Described (fixed_rows fixes.DescriptorClasses c.args.rules.now input) input in
     subst (λ (t : List (List ℕ)). AreSame t (names_that_stay c.args.rules.now input).classes) (sym c.new.ensures)
-    (both_stay c.gather.new.names c.gather-2.new.names own told (reserved named.Class)
-    (subst (λ (l : List (List ℕ)). Adds is_text l own c.gather.new.names) c.new-names.ensures
-    (subst (λ (rows : List (List Bool)). Adds is_text c.new-names.result (of_each choose.Class rows input)
-    c.gather.new.names) (c.as_slice.ensures ∙ c.in_ok-rows.ensures) c.in_ok-gather.ensures))
-    (subst (λ (rows : List (List Bool)). Adds is_text c.gather.new.names (of_each choose.Described rows input)
-    c.gather-2.new.names) (c.as_slice-2.ensures ∙ c.in_ok-described.ensures) c.in_ok-gather-2.ensures))
+    (both_stay c.gather_classes.new.names c.gather_described.new.names own told (reserved named.Class)
+    (subst (λ (l : List (List ℕ)). Adds is_text l own c.gather_classes.new.names) c.new-names.ensures
+    c.in_ok-gather_classes.ensures)
+    c.in_ok-gather_described.ensures)

@@ -1,3 +1,4 @@
+-- Answers of `fixed_fields`: what its calls ask for, and what it promises.
 use Rattle.std.proofs.Common.{ℕ, List, ◌++◌, sym, subst}
 use Rattle.fresh_names.specs.Reserved.{reserved}
 use Rattle.fresh_names.specs.declared.taken.Named.TheVariants as named

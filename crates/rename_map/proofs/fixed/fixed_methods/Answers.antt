@@ -1,3 +1,4 @@
+-- Answers of `fixed_methods`: what its calls ask for, and what it promises.
 use Rattle.std.proofs.Common.{ℕ, List, sym, subst}
 use Rattle.class_rename.specs.Names.{MethodName, is_same_method}
 use Rattle.fresh_names.specs.Given.{stays_for}

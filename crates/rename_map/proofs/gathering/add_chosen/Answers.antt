@@ -1,3 +1,4 @@
+-- Answers of `add_chosen`: what its calls ask for, and what it promises.
 use Rattle.std.proofs.Common.{◌∙◌, ap, flat_map, subst, arith}
 use Rattle.std.proofs.lemmas.List.{take_all}
 use Rattle.member_shrink.specs.Shrunk.{chosen, is_marked}

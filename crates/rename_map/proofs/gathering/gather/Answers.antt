@@ -1,3 +1,4 @@
+-- Answers of `gather`: what its calls ask for, and what it promises.
 use Rattle.std.proofs.Common.{List, Bool, [], ap, subst, arith}
 use Rattle.std.specs.Prelude.{slice_index_or}
 use Rattle.std.proofs.lemmas.List.{take_all}

@@ -1,3 +1,4 @@
+-- Answers of `lines_in`: what its calls ask for, and what it promises.
 use Rattle.std.proofs.Common.{List, ◌≡◌, ◌<◌, ◌∙◌, ap, filter_map, get_or, length, subst, take}
 use Rattle.class_model.specs.declared.code.Ins.{Ins}
 use Rattle.rename_map.specs.MappingOf.{range_of}

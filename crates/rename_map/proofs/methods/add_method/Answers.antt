@@ -1,3 +1,4 @@
+-- Answers of `add_method`: what its calls ask for, and what it promises.
 use Rattle.std.proofs.Common.{[], ◌∷◌, refl, subst}
 use Rattle.std.specs.List.{list_any}
 use Rattle.class_rename.specs.Names.{MethodName, is_same_method}

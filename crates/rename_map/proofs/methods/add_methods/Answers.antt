@@ -1,3 +1,4 @@
+-- Answers of `add_methods`: what its calls ask for, and what it promises.
 use Rattle.std.proofs.Common.{◌≡◌, ◌<◌, ◌+◌, ◌∷◌, [], ◌∙◌, ap, get_or, length, map, sym, subst, take, List, arith}
 use Rattle.std.proofs.lemmas.List.{take_all}
 use Rattle.jv_base.specs.Types.{method_text}

@@ -1,3 +1,4 @@
+-- Answers of `given_names`: what its calls ask for, and what it promises.
 use Rattle.std.proofs.Common.{◌∙◌}
 use Rattle.class_rename.proofs.Known.{if_ok}
 use Rattle.new_names.specs.NewNames.{tables_of}

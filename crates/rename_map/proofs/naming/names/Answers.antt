@@ -1,3 +1,4 @@
+-- Answers of `names`: what its calls ask for, and what it promises.
 use Rattle.rename_map.proofs.naming.names.Goals as goal
 
 pub returns : goal.returns

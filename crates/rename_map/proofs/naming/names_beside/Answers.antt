@@ -1,3 +1,4 @@
+-- Answers of `names_beside`: what its calls ask for, and what it promises.
 use Rattle.std.proofs.Common.{subst}
 use Rattle.class_rename.specs.Names.{names_in}
 use Rattle.class_rename.proofs.Known.{if_ok}

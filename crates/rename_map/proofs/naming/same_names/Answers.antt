@@ -1,3 +1,4 @@
+-- Answers of `same_names`: what its calls ask for, and what it promises.
 use Rattle.std.proofs.Common.{◌∙◌, ap}
 use Rattle.class_rename.specs.Names.{names_in}
 use Rattle.rename_map.proofs.naming.same_names.Goals as goal

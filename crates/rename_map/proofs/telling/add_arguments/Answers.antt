@@ -1,3 +1,4 @@
+-- Answers of `add_arguments`: what its calls ask for, and what it promises.
 use Rattle.std.proofs.Common.{List, flat_map, subst}
 use Rattle.std.proofs.lemmas.List.{take_all}
 use Rattle.jv_base.specs.declared.types.FieldType.{FieldType}

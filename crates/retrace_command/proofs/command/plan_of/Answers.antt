@@ -1,3 +1,4 @@
+-- Answers of `plan_of`: what its calls ask for, and what it promises.
 use Rattle.std.proofs.Common.{◌≡◌, ℕ, List, Result, Ok}
 use Rattle.std.proofs.lemmas.Result.{err_from_is_err_and}
 use Rattle.mapping_file.specs.declared.mapping.Mapping.{Mapping}

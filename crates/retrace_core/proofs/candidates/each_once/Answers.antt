@@ -1,3 +1,4 @@
+-- Answers of `each_once`: what its calls ask for, and what it promises.
 use Rattle.std.proofs.Common.{◌≡◌, ◌∷◌, ◌++◌, [], ℕ, List, sym, ap, ◌∙◌}
 use Rattle.indexmap.specs.IndexSet.{insert_key}
 use Rattle.jv_base.specs.Names.{is_text}

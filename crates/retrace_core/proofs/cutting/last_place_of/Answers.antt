@@ -1,3 +1,4 @@
+-- Answers of `last_place_of`: what its calls ask for, and what it promises.
 use Rattle.retrace_core.proofs.LastPlace.{all_seen, seen_here, seen_other}
 use Rattle.retrace_core.proofs.cutting.last_place_of.Goals as goal
 use Rattle.retrace_core.proofs.cutting.last_place_of.Goals.{then-b-byte, else-b-byte}

@@ -1,3 +1,4 @@
+-- Answers of `is_name_of_method`: what its calls ask for, and what it promises.
 use Rattle.std.proofs.Common.{◌≡◌, true, false, refl, ap, ◌∙◌, inl, inr}
 use Rattle.std.specs.Str.{is_utf8}
 use Rattle.std.proofs.lemmas.Bool.{cases_Bool}

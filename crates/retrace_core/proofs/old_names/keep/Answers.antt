@@ -1,3 +1,4 @@
+-- Answers of `keep`: what its calls ask for, and what it promises.
 use Rattle.retrace_core.proofs.Telling.{put_found}
 use Rattle.retrace_core.proofs.old_names.keep.Goals as goal
 

@@ -1,3 +1,4 @@
+-- Answers of `old_classes`: what its calls ask for, and what it promises.
 use Rattle.std.proofs.Common.{◌∷◌, ◌++◌, [], List, take, sym, subst, ap, ◌∙◌}
 use Rattle.std.proofs.lemmas.List.{take_more}
 use Rattle.mapping_file.specs.declared.mapping.MapClass.{MapClass}

@@ -1,3 +1,4 @@
+-- Answers of `put_class`: what its calls ask for, and what it promises.
 use Rattle.std.proofs.Common.{List, ℕ, sym, ap, ◌∙◌}
 use Rattle.std.specs.Option.{is_some}
 use Rattle.jv_base.specs.External.{dotted}

@@ -1,3 +1,4 @@
+-- Answers of `put_place`: what its calls ask for, and what it promises.
 use Rattle.std.proofs.Common.{◌∙◌, ℕ, List, Some, ap, cond}
 use Rattle.jv_base.specs.Names.{is_text}
 use Rattle.retrace_core.specs.bodies.Linked.{kept_in}

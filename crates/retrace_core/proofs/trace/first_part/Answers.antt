@@ -1,3 +1,4 @@
+-- Answers of `first_part`: what its calls ask for, and what it promises.
 use Rattle.std.proofs.Common.{◌+◌, ◌++◌, List, ℕ, sym, ap, ◌∙◌, take, Option, Some, None}
 use Rattle.std.specs.Prelude.{IfNone}
 use Rattle.std.proofs.lemmas.List.{take_rest}

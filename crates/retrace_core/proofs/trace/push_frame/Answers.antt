@@ -1,3 +1,4 @@
+-- Answers of `push_frame`: what its calls ask for, and what it promises.
 use Rattle.std.proofs.Common.{◌≡◌, ◌++◌, ℕ, List, sym, ap, subst, ◌∙◌}
 use Rattle.std.specs.Prelude.{OnOk}
 use Rattle.std.specs.Option.{option_copied}

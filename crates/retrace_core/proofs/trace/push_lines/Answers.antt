@@ -1,3 +1,4 @@
+-- Answers of `push_lines`: what its calls ask for, and what it promises.
 use Rattle.retrace_core.proofs.LineParts.{put_first}
 use Rattle.retrace_core.proofs.trace.push_lines.Goals as goal
 

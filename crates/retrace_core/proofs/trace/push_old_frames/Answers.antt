@@ -1,3 +1,4 @@
+-- Answers of `push_old_frames`: what its calls ask for, and what it promises.
 use Rattle.std.proofs.Common.{◌≡◌, ◌∷◌, ◌++◌, [], ℕ, List, map, ap, subst, ◌∙◌}
 use Rattle.std.specs.Prelude.{OnOk}
 use Rattle.retrace_core.specs.Frames.{line_of}

@@ -1,3 +1,4 @@
+-- Answers of `all_below`: what its calls ask for, and what it promises.
 use Rattle.std.proofs.Common.{◌≡◌, ◌+◌, ◌∷◌, [], ◌++◌, ℕ, ap, arith, sym, ◌∙◌}
 use Rattle.std.specs.List.{range_with_len}
 use Rattle.require_sys.proofs.Steps.{range_more}

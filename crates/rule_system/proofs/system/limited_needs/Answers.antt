@@ -1,3 +1,4 @@
+-- Answers of `limited_needs`: what its calls ask for, and what it promises.
 use Rattle.std.proofs.Common.{rules, ◌≡◌, List, ℕ, Ok, Result, Err, subst, sym}
 use Rattle.jv_base.specs.Outcome.{IsDue}
 use Rattle.jv_base.specs.declared.outcome.Or.{Or}

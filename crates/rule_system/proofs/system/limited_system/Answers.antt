@@ -1,3 +1,4 @@
+-- Answers of `limited_system`: what its calls ask for, and what it promises.
 use Rattle.require_sys.specs.Requires.{requires}
 use Rattle.rule_system.proofs.Limiting.{system_is}
 use Rattle.rule_system.proofs.system.limited_system.Goals as goal

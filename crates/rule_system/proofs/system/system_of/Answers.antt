@@ -1,3 +1,4 @@
+-- Answers of `system_of`: what its calls ask for, and what it promises.
 use Rattle.std.proofs.Common.{rules, ◌≡◌, Bool, List, Result, Err, arith, subst, sym, ◌∙◌}
 use Rattle.std.specs.Option.{ForSome}
 use Rattle.jv_base.specs.Outcome.{IsDue}

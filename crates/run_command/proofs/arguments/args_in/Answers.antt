@@ -1,3 +1,4 @@
+-- Answers of `args_in`: what its calls ask for, and what it promises.
 use Rattle.std.proofs.Common.{◌-◌, take, drop, length, sym, ◌∙◌, rules}
 use Rattle.run_command.proofs.Taking.{all_taken, no_argument, opened, rest_refused, rest_taken, takes_one, wants_word}
 use Rattle.run_command.specs.Arguments.{args_in}

@@ -1,3 +1,4 @@
+-- Answers of `long_below`: what its calls ask for, and what it promises.
 use Rattle.std.proofs.Common.{◌≡◌, Bool, true, false, ltb, sym, ap, ◌∙◌, arith}
 use Rattle.text_lines.specs.Cut.{where_true}
 use Rattle.run_command.proofs.Longs.{narrow_some}

@@ -1,3 +1,4 @@
+-- Answers of `long_number`: what its calls ask for, and what it promises.
 use Rattle.std.proofs.Common.{sym, ◌∙◌}
 use Rattle.text_lines.proofs.Numerals.{parsed}
 use Rattle.run_command.proofs.arguments.long_number.Goals as goal

@@ -1,3 +1,4 @@
+-- Answers of `string_in`: what its calls ask for, and what it promises.
 use Rattle.std.proofs.Common.{arith}
 use Rattle.run_command.proofs.Strings.{is_no_string, is_string}
 use Rattle.run_command.proofs.arguments.string_in.Goals as goal

@@ -1,3 +1,4 @@
+-- Answers of `strings_in`: what its calls ask for, and what it promises.
 use Rattle.std.proofs.Common.{◌≡◌, ◌++◌, ◌∷◌, [], sym, ◌∙◌}
 use Rattle.run_command.proofs.Strings.{all_strings, no_more, string_taken}
 use Rattle.run_command.specs.Arguments.{strings_in}

@@ -1,3 +1,4 @@
+-- Answers of `entry_in`: what its calls ask for, and what it promises.
 use Rattle.std.proofs.Common.{◌<◌, length, sym, ◌∙◌, arith}
 use Rattle.run_command.proofs.FirstGiven.{given_here, given_later}
 use Rattle.run_command.specs.Entries.{class_entry}

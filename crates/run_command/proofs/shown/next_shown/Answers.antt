@@ -1,3 +1,4 @@
+-- Answers of `next_shown`: what its calls ask for, and what it promises.
 use Rattle.std.proofs.Common.{ℕ, List, ◌++◌, sym, ap, ◌∙◌}
 use Rattle.std.proofs.lemmas.List.{take_rest}
 use Rattle.std.specs.Char.{encode_utf8}

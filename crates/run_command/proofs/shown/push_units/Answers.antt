@@ -1,3 +1,4 @@
+-- Answers of `push_units`: what its calls ask for, and what it promises.
 use Rattle.std.proofs.Common.{◌++◌}
 use Rattle.std.specs.Prelude.{string_bytes}
 use Rattle.run_command.proofs.Units.{all_shown}

@@ -1,3 +1,4 @@
+-- Answers of `end_of`: what its calls ask for, and what it promises.
 use Rattle.std.proofs.Common.{◌∙◌, Bor, Option, Some, sym, ap}
 use Rattle.std.specs.Option.{option_copied}
 use Rattle.class_run.specs.Ended.{back_of, end_of}

@@ -1,3 +1,4 @@
+-- Answers of `ended_of`: what its calls ask for, and what it promises.
 use Rattle.std.proofs.Common.{◌≡◌, ◌∙◌}
 use Rattle.run_machine.specs.States.{state_of}
 use Rattle.run_entry.proofs.ending.ended_of.Goals as goal

@@ -1,3 +1,4 @@
+-- Answers of `thrown`: what its calls ask for, and what it promises.
 use Rattle.std.proofs.Common.{ℕ, List, ap, ◌∙◌}
 use Rattle.class_run.specs.declared.ended.End.TheVariants as end
 use Rattle.run_entry.proofs.ending.thrown.Goals as goal

@@ -1,3 +1,4 @@
+-- Answers of `run_class`: what its calls ask for, and what it promises.
 use Rattle.std.proofs.Common.{map}
 use Rattle.class_run.specs.Ended.{ended_after}
 use Rattle.run_heap.specs.Worlds.{object_of}

@@ -1,3 +1,4 @@
+-- Answers of `acted`: what its calls ask for, and what it promises.
 use Rattle.run_heap.proofs.acting.acted.Goals as goal
 
 pub returns-in-MakesText : goal.returns-in-MakesText

@@ -1,3 +1,4 @@
+-- Answers of `append`: what its calls ask for, and what it promises.
 use Rattle.std.proofs.Common.{◌∙◌, List, ap, refl, sym, ℕ}
 use Rattle.std.proofs.lemmas.Result.{IfOk-weaker}
 use Rattle.std.specs.Prelude.{slice_get}

@@ -1,3 +1,4 @@
+-- Answers of `append_at`: what its calls ask for, and what it promises.
 use Rattle.std.proofs.Common.{◌<◌, length, ◌∙◌, List, Some, ap, refl, rules, sym}
 use Rattle.std.proofs.lemmas.Option.{slice_get_read}
 use Rattle.std.specs.Prelude.{map, slice_set}

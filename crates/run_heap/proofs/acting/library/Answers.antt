@@ -1,3 +1,4 @@
+-- Answers of `library`: what its calls ask for, and what it promises.
 use Rattle.std.proofs.Common.{ap, refl, sym}
 use Rattle.std.proofs.lemmas.Result.{IfOk-weaker}
 use Rattle.jvm_model.specs.Answers.{of_some}

@@ -1,3 +1,4 @@
+-- Answers of `set_builder`: what its calls ask for, and what it promises.
 use Rattle.std.proofs.Common.{◌<◌, length, ◌∙◌, List, None, ap, refl, rules, sym}
 use Rattle.std.proofs.lemmas.Option.{slice_get_read}
 use Rattle.jvm_model.specs.Answers.{Gives}

@@ -1,3 +1,4 @@
+-- Answers of `component_at`: what its calls ask for, and what it promises.
 use Rattle.std.proofs.Common.{◌∙◌, refl, rules, sym}
 use Rattle.std.proofs.lemmas.Int.{to_z-of_z}
 use mir.Syntax.{w32}

@@ -1,3 +1,4 @@
+-- Answers of `length_at`: what its calls ask for, and what it promises.
 use Rattle.std.proofs.Common.{◌∙◌, refl, sym}
 use Rattle.jvm_model.specs.Arrays.{length_in}
 use Rattle.run_heap.specs.Worlds.{world_of}

@@ -1,3 +1,4 @@
+-- Answers of `call_selected`: what its calls ask for, and what it promises.
 use Rattle.std.proofs.lemmas.Result.{IfOk-weaker}
 use Rattle.jvm_model.specs.Calls.{call_selected}
 use Rattle.run_heap.specs.Answers.{Changes}

@@ -1,3 +1,4 @@
+-- Answers of `receiver_of`: what its calls ask for, and what it promises.
 use Rattle.std.proofs.Common.{◌∙◌, refl, sym}
 use Rattle.run_heap.specs.Worlds.{world_of}
 use Rattle.run_heap.proofs.Receiving.{no_object, no_receiver, null_receiver, object_receiver, on_text, text_receiver}

@@ -1,3 +1,4 @@
+-- Answers of `cast`: what its calls ask for, and what it promises.
 use Rattle.std.proofs.Common.{◌∙◌, Some, None, ap, false, sym, true}
 use Rattle.jvm_model.specs.Answers.{Gives}
 use Rattle.jvm_model.specs.Value.{Value}

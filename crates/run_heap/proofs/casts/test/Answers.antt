@@ -1,3 +1,4 @@
+-- Answers of `test`: what its calls ask for, and what it promises.
 use Rattle.std.proofs.Common.{◌∙◌, Some, None, ap, sym}
 use Rattle.jvm_model.specs.Answers.{Gives}
 use Rattle.jvm_model.specs.Value.{Value}

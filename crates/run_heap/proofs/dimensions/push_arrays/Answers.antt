@@ -1,3 +1,4 @@
+-- Answers of `push_arrays`: what its calls ask for, and what it promises.
 use Rattle.std.proofs.Common.{◌∙◌, ◌+◌, ◌++◌, ℕ, List, ap, drop, get_or, length, map, pos, rules}
 use Rattle.std.proofs.lemmas.Int.{to_z-of_z}
 use Rattle.std.specs.Int.RustNames.{unsigned_abs}

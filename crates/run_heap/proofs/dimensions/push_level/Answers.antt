@@ -1,3 +1,4 @@
+-- Answers of `push_level`: what its calls ask for, and what it promises.
 use Rattle.std.proofs.Common.{◌≡◌, ◌∙◌, ◌+◌, ◌*◌, ℕ, ap, length, rules}
 use Rattle.jvm_model.specs.Arrays.{references_from}
 use Rattle.jvm_model.specs.Heap.{Array}

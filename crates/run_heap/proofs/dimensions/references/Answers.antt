@@ -1,3 +1,4 @@
+-- Answers of `references`: what its calls ask for, and what it promises.
 use Rattle.std.proofs.Common.{◌∙◌, ◌++◌, [], ◌∷◌, List, ap, rules, sym}
 use Rattle.std.proofs.lemmas.List.FromFn.{map-range_with_len_more}
 use Rattle.jvm_model.specs.Arrays.{references_from}

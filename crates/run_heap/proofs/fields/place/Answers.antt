@@ -1,3 +1,4 @@
+-- Answers of `place`: what its calls ask for, and what it promises.
 use Rattle.std.proofs.Common.{◌≡◌, ◌∙◌, ap, rules, true}
 use Rattle.jvm_model.specs.Value.{same_key}
 use Rattle.run_heap.proofs.Replacing.{one_item, reached}

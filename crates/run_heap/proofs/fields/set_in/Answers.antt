@@ -1,3 +1,4 @@
+-- Answers of `set_in`: what its calls ask for, and what it promises.
 use Rattle.std.proofs.Common.{◌∙◌, ap, sym}
 use Rattle.run_heap.specs.Held.{held}
 use Rattle.run_heap.proofs.Replacing.{replaced_is_set}

@@ -1,3 +1,4 @@
+-- Answers of `seen`: what its calls ask for, and what it promises.
 use Rattle.std.proofs.Common.{◌∙◌, ap, sym}
 use Rattle.jvm_model.specs.Calls.{seen_operand}
 use Rattle.jvm_model.specs.Value.{Value}

@@ -1,3 +1,4 @@
+-- Answers of `polynomial`: what its calls ask for, and what it promises.
 use Rattle.std.proofs.Common.{◌∙◌, ◌^◌}
 use Rattle.run_library.proofs.Horner.{polynomial_step}
 use Rattle.run_library.proofs.units.polynomial.Goals as goal

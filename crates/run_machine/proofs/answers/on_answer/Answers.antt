@@ -1,3 +1,4 @@
+-- Answers of `on_answer`: what its calls ask for, and what it promises.
 use Rattle.run_machine.proofs.answers.on_answer.Goals as goal
 
 pub returns-in-Raises : goal.returns-in-Raises

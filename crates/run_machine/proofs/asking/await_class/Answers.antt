@@ -1,3 +1,4 @@
+-- Answers of `await_class`: what its calls ask for, and what it promises.
 use Rattle.std.proofs.Common.{◌∙◌, ◌∷◌, ℕ, List, ap}
 use Rattle.std.proofs.lemmas.Result.{IfOk-weaker}
 use Rattle.jvm_model.specs.Initialisation.{begin}

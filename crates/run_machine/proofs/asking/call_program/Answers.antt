@@ -1,3 +1,4 @@
+-- Answers of `call_program`: what its calls ask for, and what it promises.
 use Rattle.std.proofs.Common.{◌∙◌, ◌++◌, ◌∷◌, ℕ, List, ap, refl, reverse, sym}
 use Rattle.std.proofs.lemmas.Result.{IfOk-weaker}
 use Rattle.jvm_model.specs.Calls.{called_static}

@@ -1,3 +1,4 @@
+-- Answers of `call_static`: what its calls ask for, and what it promises.
 use Rattle.std.proofs.Common.{◌∙◌, Option, Some, ap, reverse, sym}
 use Rattle.std.proofs.lemmas.Result.{IfOk-weaker}
 use Rattle.std.specs.Option.{option_map}

@@ -1,3 +1,4 @@
+-- Answers of `get_static`: what its calls ask for, and what it promises.
 use Rattle.std.proofs.Common.{◌∙◌, ◌∷◌, [], ℕ, List, Option, Some, ap, refl, sym}
 use Rattle.std.proofs.lemmas.Result.{IfOk-weaker}
 use Rattle.jvm_model.specs.Fields.{get_static}

@@ -1,3 +1,4 @@
+-- Answers of `put_static`: what its calls ask for, and what it promises.
 use Rattle.std.proofs.Common.{◌∙◌, ◌∷◌, [], ℕ, List, None, Option, Some, ap, refl, sym}
 use Rattle.std.proofs.lemmas.Result.{IfOk-weaker}
 use Rattle.jvm_model.specs.Fields.{put_static, stored_in}

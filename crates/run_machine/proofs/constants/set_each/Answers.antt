@@ -1,3 +1,4 @@
+-- Answers of `set_each`: what its calls ask for, and what it promises.
 use Rattle.std.proofs.Common.{◌∙◌, rules}
 use Rattle.run_heap.specs.Held.{held}
 use Rattle.run_machine.proofs.ConstantFields.{each_next}

@@ -1,3 +1,4 @@
+-- Answers of `run_code`: what its calls ask for, and what it promises.
 use Rattle.std.proofs.Common.{◌≡◌, ◌∙◌, ◌-◌, arith, suc}
 use Rattle.run_machine.specs.States.{program, state_at, waits_of, whole}
 use Rattle.run_machine.specs.declared.state.Control.TheVariants as doing

@@ -1,3 +1,4 @@
+-- Answers of `run_frame`: what its calls ask for, and what it promises.
 use Rattle.std.proofs.Common.{◌≡◌, ◌-◌, arith, suc}
 use Rattle.run_machine.specs.States.{program, waits_of, whole}
 use Rattle.run_machine.proofs.Runs.{without_code}

@@ -1,3 +1,4 @@
+-- Answers of `step_asking`: what its calls ask for, and what it promises.
 use Rattle.std.proofs.Common.{◌≡◌, arith, length}
 use Rattle.run_machine.proofs.Keeping.{asked_again}
 use Rattle.run_machine.proofs.going.step_asking.Goals as goal

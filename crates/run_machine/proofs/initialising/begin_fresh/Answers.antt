@@ -1,3 +1,4 @@
+-- Answers of `begin_fresh`: what its calls ask for, and what it promises.
 use Rattle.std.proofs.Common.{◌∙◌, ℕ, List, ap}
 use Rattle.jvm_model.specs.Heap.{Begun, Init}
 use Rattle.jvm_model.specs.Initialisation.{state, with_constants}

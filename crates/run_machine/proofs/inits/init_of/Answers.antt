@@ -1,3 +1,4 @@
+-- Answers of `init_of`: what its calls ask for, and what it promises.
 use Rattle.std.proofs.Common.{◌∙◌, ℕ, Bool, List, ap, sym}
 use Rattle.std.specs.Prelude.{if◌then◌else◌}
 use Rattle.jvm_model.specs.Heap.{Fresh, Ready}

@@ -1,3 +1,4 @@
+-- Answers of `answer`: what its calls ask for, and what it promises.
 use Rattle.std.proofs.Common.{rules}
 use Rattle.std.proofs.lemmas.Result.{IfOk-weaker}
 use Rattle.std.proofs.lemmas.Int.{to_z-of_z}

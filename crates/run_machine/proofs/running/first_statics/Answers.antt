@@ -1,3 +1,4 @@
+-- Answers of `first_statics`: what its calls ask for, and what it promises.
 use Rattle.std.proofs.Common.{refl}
 use Rattle.run_machine.proofs.running.first_statics.Goals as goal
 

@@ -1,3 +1,4 @@
+-- Answers of `run`: what its calls ask for, and what it promises.
 use Rattle.std.proofs.Common.{◌∙◌, ap}
 use Rattle.jvm_model.specs.Step.{run}
 use Rattle.run_machine.specs.States.{program, state_at}

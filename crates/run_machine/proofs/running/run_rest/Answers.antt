@@ -1,3 +1,4 @@
+-- Answers of `run_rest`: what its calls ask for, and what it promises.
 use Rattle.std.proofs.Common.{◌≡◌, ◌∙◌, ap, arith, sym}
 use Rattle.jvm_model.specs.Step.{run}
 use Rattle.run_machine.specs.States.{program, state_at}

@@ -1,3 +1,4 @@
+-- Answers of `advance`: what its calls ask for, and what it promises.
 use Rattle.std.proofs.Common.{◌≡◌, ◌-◌, arith, suc}
 use Rattle.run_machine.specs.States.{program, state_at}
 use Rattle.run_machine.proofs.Keeping.{no_frame}

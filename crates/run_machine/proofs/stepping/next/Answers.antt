@@ -1,3 +1,4 @@
+-- Answers of `next`: what its calls ask for, and what it promises.
 use Rattle.std.proofs.Common.{◌≡◌, false, true}
 use Rattle.std.proofs.lemmas.Result.{IfOk-weaker}
 use Rattle.jvm_model.specs.Initialisation.{complete}

@@ -1,3 +1,4 @@
+-- Answers of `fail`: what its calls ask for, and what it promises.
 use Rattle.std.proofs.Common.{ℕ, List, ap}
 use Rattle.jvm_model.specs.Heap.{Init}
 use Rattle.jvm_model.specs.Initialisation.{state}

@@ -1,3 +1,4 @@
+-- Answers of `unwind_frame`: what its calls ask for, and what it promises.
 use Rattle.std.proofs.Common.{◌≡◌, ◌∙◌, ℕ, List, None, Some, ap}
 use Rattle.std.proofs.lemmas.Result.{IfOk-weaker}
 use Rattle.std.specs.Option.{option_map}

@@ -1,3 +1,4 @@
+-- Answers of `computed_rows`: what its calls ask for, and what it promises.
 use Rattle.run_rows.proofs.Arithmetic as arithmetic
 use Rattle.run_rows.proofs.Branches as branches
 use Rattle.run_rows.proofs.Switches as switches

@@ -1,3 +1,4 @@
+-- Answers of `call_static`: what its calls ask for, and what it promises.
 use Rattle.std.proofs.Common.{rules}
 use Rattle.jvm_model.specs.Types.{argument_kinds}
 use Rattle.run_steps.proofs.Taken.{operands_taken}

@@ -1,3 +1,4 @@
+-- Answers of `cells_of`: what its calls ask for, and what it promises.
 use Rattle.std.proofs.Common.{rules, ◌∙◌, ap, List, Option, ◌++◌, [], ◌∷◌}
 use Rattle.jvm_model.specs.Value.{Value}
 use Rattle.run_values.specs.bodies.Cells.{cells}

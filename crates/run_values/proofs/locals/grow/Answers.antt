@@ -1,3 +1,4 @@
+-- Answers of `grow`: what its calls ask for, and what it promises.
 use Rattle.std.proofs.Common.{rules, ◌∙◌}
 use Rattle.run_values.proofs.Cells.{slots_grown}
 use Rattle.run_values.proofs.locals.grow.Goals as goal

@@ -1,3 +1,4 @@
+-- Answers of `set_slot`: what its calls ask for, and what it promises.
 use Rattle.std.proofs.Common.{rules, ◌∙◌, ap, ℕ, Option, Some}
 use Rattle.jvm_model.specs.Value.{Value, set_at}
 use Rattle.run_values.specs.Slots.{slots_of}

@@ -1,3 +1,4 @@
+-- Answers of `int_to_short`: what its calls ask for, and what it promises.
 use Rattle.std.proofs.Common.{rules}
 use Rattle.std.specs.Int.{int_wrap}
 use Rattle.run_values.proofs.numbers.int_to_short.Goals as goal

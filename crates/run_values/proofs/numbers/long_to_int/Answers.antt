@@ -1,3 +1,4 @@
+-- Answers of `long_to_int`: what its calls ask for, and what it promises.
 use Rattle.std.proofs.Common.{rules}
 use Rattle.std.specs.Int.{int_wrap}
 use Rattle.run_values.proofs.numbers.long_to_int.Goals as goal

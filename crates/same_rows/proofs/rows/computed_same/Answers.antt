@@ -1,3 +1,4 @@
+-- Answers of `computed_same`: what its calls ask for, and what it promises.
 use Rattle.same_rows.proofs.Computed as computed
 use Rattle.same_rows.proofs.Promised as promised
 use Rattle.same_rows.proofs.rows.computed_same.Goals as goal

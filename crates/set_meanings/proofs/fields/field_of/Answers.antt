@@ -1,3 +1,4 @@
+-- Answers of `field_of`: what its calls ask for, and what it promises.
 use Rattle.std.proofs.Common.{◌≡◌, Option, IfSome, sym, subst}
 use Rattle.class_pool.specs.Found.{named_at}
 use Rattle.class_pool.specs.declared.id.MemberAt.{MemberAt}

@@ -1,3 +1,4 @@
+-- Answers of `fields_of`: what its calls ask for, and what it promises.
 use Rattle.std.proofs.Common.{Some, sym, ap, ◌∙◌}
 use Rattle.set_meanings.proofs.Constants.{keys_told}
 use Rattle.set_meanings.proofs.fields.fields_of.Goals as goal

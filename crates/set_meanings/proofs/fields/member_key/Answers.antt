@@ -1,3 +1,4 @@
+-- Answers of `member_key`: what its calls ask for, and what it promises.
 use Rattle.std.proofs.Common.{sym, ◌∙◌}
 use Rattle.class_pool.proofs.Declaring.{declared_named}
 use Rattle.set_meanings.proofs.fields.member_key.Goals as goal

@@ -1,3 +1,4 @@
+-- Answers of `code_in`: what its calls ask for, and what it promises.
 use Rattle.std.proofs.Common.{sym, arith, ◌∙◌}
 use Rattle.set_meanings.proofs.Numbered.{code_told, no_code_told}
 use Rattle.set_meanings.proofs.members.code_in.Goals as goal

@@ -1,3 +1,4 @@
+-- Answers of `constant_in`: what its calls ask for, and what it promises.
 use Rattle.std.proofs.Common.{sym, ap, arith}
 use Rattle.std.specs.Option.{option_map}
 use Rattle.set_view.specs.ViewOf.{value_of}

@@ -1,3 +1,4 @@
+-- Answers of `push_set`: what its calls ask for, and what it promises.
 use Rattle.std.proofs.Common.{◌++◌, map}
 use Rattle.class_model.specs.declared.class.Class.{Class}
 use Rattle.set_meanings.proofs.AllNames.{names_on}

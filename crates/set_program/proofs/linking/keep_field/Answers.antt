@@ -1,3 +1,4 @@
+-- Answers of `keep_field`: what its calls ask for, and what it promises.
 use Rattle.set_program.specs.bodies.Links.{IsFieldRow}
 use Rattle.set_program.proofs.Putting.{all_hold}
 use Rattle.set_program.proofs.linking.keep_field.Goals as goal

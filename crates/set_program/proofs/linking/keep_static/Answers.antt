@@ -1,3 +1,4 @@
+-- Answers of `keep_static`: what its calls ask for, and what it promises.
 use Rattle.set_program.specs.bodies.Links.{IsStaticRow}
 use Rattle.set_program.proofs.Putting.{all_hold}
 use Rattle.set_program.proofs.linking.keep_static.Goals as goal

@@ -1,3 +1,4 @@
+-- Answers of `keep_selection`: what its calls ask for, and what it promises.
 use Rattle.set_program.specs.bodies.Links.{IsSelectedRow}
 use Rattle.set_program.proofs.Putting.{all_hold}
 use Rattle.set_program.proofs.receivers.keep_selection.Goals as goal

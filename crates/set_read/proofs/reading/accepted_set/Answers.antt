@@ -1,3 +1,4 @@
+-- Answers of `accepted_set`: what its calls ask for, and what it promises.
 use Rattle.std.proofs.lemmas.Result.{err_from_is_err_and}
 use Rattle.set_read.proofs.Judging.{no_set, no_links}
 use Rattle.set_read.proofs.reading.accepted_set.Goals as goal

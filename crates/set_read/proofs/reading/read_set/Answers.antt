@@ -1,3 +1,4 @@
+-- Answers of `read_set`: what its calls ask for, and what it promises.
 use Rattle.set_read.proofs.Few.{ascending_kept, few_items}
 use Rattle.set_read.proofs.Sets.{judged, writable}
 use Rattle.set_read.proofs.reading.read_set.Goals as goal

@@ -1,3 +1,4 @@
+-- Answers of `counts_of`: what its calls ask for, and what it promises.
 use Rattle.std.proofs.Common.{arith}
 use Rattle.set_shrink.proofs.Members.{fields_few, methods_few}
 use Rattle.set_shrink.proofs.counts.counts_of.Goals as goal

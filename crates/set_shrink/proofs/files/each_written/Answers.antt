@@ -1,3 +1,4 @@
+-- Answers of `each_written`: what its calls ask for, and what it promises.
 use Rattle.std.proofs.Common.{◌∙◌, ℕ, List, ap, map, subst, sym}
 use Rattle.std.specs.List.{All, AllByRecursion}
 use Rattle.rayon.specs.Lists.{vec_items}

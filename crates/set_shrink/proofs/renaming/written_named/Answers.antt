@@ -1,3 +1,4 @@
+-- Answers of `written_named`: what its calls ask for, and what it promises.
 use Rattle.std.proofs.Common.{List, map, subst, sym}
 use Rattle.std.specs.List.{AllByRecursion}
 use Rattle.attribute_filter.specs.Filtered.{filtered}

@@ -1,3 +1,4 @@
+-- Answers of `shrink_classes`: what its calls ask for, and what it promises.
 use Rattle.std.proofs.Common.{ap, ◌∙◌, arith}
 use Rattle.std.proofs.lemmas.Result.{err_from_is_err_and}
 use Rattle.class_pool.specs.Count.{item_count}

@@ -1,3 +1,4 @@
+-- Answers of `judge`: what its calls ask for, and what it promises.
 use Rattle.set_vectors.proofs.Judged.{judged}
 use Rattle.set_vectors.proofs.judging.judge.Goals as goal
 

@@ -1,3 +1,4 @@
+-- Answers of `computed_runs`: what its calls ask for, and what it promises.
 use Rattle.set_view.proofs.ComputedRuns as computed
 use Rattle.set_view.proofs.examples.computed_runs.Goals as goal
 

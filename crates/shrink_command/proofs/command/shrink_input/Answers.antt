@@ -1,3 +1,4 @@
+-- Answers of `shrink_input`: what its calls ask for, and what it promises.
 use Rattle.std.proofs.lemmas.Result.{err_from_is_err_and}
 use Rattle.tree_io.specs.Files.{Files}
 use Rattle.command_frame.proofs.Steps.{first_stops, then_made}

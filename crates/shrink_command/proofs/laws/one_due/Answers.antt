@@ -1,3 +1,4 @@
+-- Answers of `one_due`: what its calls ask for, and what it promises.
 use Rattle.shrink_command.proofs.OneDue.{one_due}
 use Rattle.shrink_command.proofs.laws.one_due.Goals as goal
 

@@ -1,3 +1,4 @@
+-- Answers of `codes_plan`: what its calls ask for, and what it promises.
 use Rattle.std.proofs.Common.{◌≡◌, ◌<◌, List, ap, refl, sym, subst, ◌∙◌, arith, length}
 use Rattle.std.specs.List.{AllByRecursion}
 use Rattle.class_laws.specs.SpellingLaws.{IsWritable}

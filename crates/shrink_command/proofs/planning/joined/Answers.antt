@@ -1,3 +1,4 @@
+-- Answers of `joined`: what its calls ask for, and what it promises.
 use Rattle.std.proofs.Common.{◌≡◌, List, Result, Err, ap, refl, sym, ◌∙◌}
 use Rattle.tree_io.specs.declared.file_at.FileAt.{FileAt}
 use Rattle.command_frame.proofs.Steps.{then_makes}

@@ -1,3 +1,4 @@
+-- Answers of `kept_plan`: what its calls ask for, and what it promises.
 use Rattle.command_frame.proofs.Steps.{then_makes}
 use Rattle.shrink_command.specs.Due.{AreOptimised, FollowsCodes}
 use Rattle.shrink_command.proofs.Planned.{kept_count}

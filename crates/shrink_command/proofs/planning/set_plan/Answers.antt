@@ -1,3 +1,4 @@
+-- Answers of `set_plan`: what its calls ask for, and what it promises.
 use Rattle.std.proofs.Common.{rules}
 use Rattle.std.proofs.lemmas.Result.{err_from_is_err_and}
 use Rattle.command_frame.proofs.Steps.{makes_stops, then_makes}

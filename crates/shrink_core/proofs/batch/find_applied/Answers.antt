@@ -1,3 +1,4 @@
+-- Answers of `find_applied`: what its calls ask for, and what it promises.
 use Rattle.std.proofs.Common.{◌≡◌, Option, Result, Ok, refl}
 use Rattle.std.proofs.lemmas.Result.{err_from_is_err_and}
 use Rattle.tree_io.specs.Files.{Files}

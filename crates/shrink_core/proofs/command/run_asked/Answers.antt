@@ -1,3 +1,4 @@
+-- Answers of `run_asked`: what its calls ask for, and what it promises.
 use Rattle.shrink_core.proofs.Checked.{checked}
 use Rattle.shrink_core.proofs.command.run_asked.Goals as goal
 

@@ -1,3 +1,4 @@
+-- Answers of `run_shrink`: what its calls ask for, and what it promises.
 use Rattle.command_frame.proofs.Endings.{ended_more}
 use Rattle.shrink_command.specs.Due as shrink
 use Rattle.shrink_core.proofs.Checked.{pair_due}

@@ -1,3 +1,4 @@
+-- Answers of `told_files_are_left_as_due`: what its calls ask for, and what it promises.
 use Rattle.batch_command.specs.Batch as batch
 use Rattle.batch_command.proofs.OfJobs as batches
 use Rattle.check_command.specs.Due as check

@@ -1,3 +1,4 @@
+-- Answers of `what_is_written_is_ok`: what its calls ask for, and what it promises.
 use Rattle.shrink_core.proofs.Again.{plan_checked}
 use Rattle.shrink_core.proofs.laws.what_is_written_is_ok.Goals as goal
 

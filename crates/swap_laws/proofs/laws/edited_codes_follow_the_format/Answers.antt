@@ -1,3 +1,4 @@
+-- Answers of `edited_codes_follow_the_format`: what its calls ask for, and what it promises.
 use Rattle.swap_laws.proofs.EditedSets.{edited_swapped}
 use Rattle.swap_laws.proofs.InFormat.{edited_good}
 use Rattle.swap_laws.proofs.laws.edited_codes_follow_the_format.Goals as goal

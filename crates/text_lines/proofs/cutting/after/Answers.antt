@@ -1,3 +1,4 @@
+-- Answers of `after`: what its calls ask for, and what it promises.
 use Rattle.text_lines.proofs.Parts.{stripped}
 use Rattle.text_lines.proofs.cutting.after.Goals as goal
 

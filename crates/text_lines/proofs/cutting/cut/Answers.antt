@@ -1,3 +1,4 @@
+-- Answers of `cut`: what its calls ask for, and what it promises.
 use Rattle.text_lines.proofs.Parts.{split}
 use Rattle.text_lines.proofs.cutting.cut.Goals as goal
 

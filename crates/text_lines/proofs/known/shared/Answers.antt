@@ -1,3 +1,4 @@
+-- Answers of `shared`: what its calls ask for, and what it promises.
 use Rattle.std.proofs.Common.{sym, ◌∙◌}
 use Rattle.std.proofs.lemmas.Map.Lookups.{exact_bytes}
 use Rattle.text_lines.proofs.known.shared.Goals as goal

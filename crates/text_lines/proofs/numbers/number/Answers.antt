@@ -1,3 +1,4 @@
+-- Answers of `number`: what its calls ask for, and what it promises.
 use Rattle.std.proofs.Common.{sym, ◌∙◌}
 use Rattle.text_lines.proofs.Numerals.{parsed}
 use Rattle.text_lines.proofs.numbers.number.Goals as goal

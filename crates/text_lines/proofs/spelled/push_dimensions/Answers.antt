@@ -1,3 +1,4 @@
+-- Answers of `push_dimensions`: what its calls ask for, and what it promises.
 use Rattle.std.proofs.Common.{ℕ, List, ◌++◌, codes, ap, ◌∙◌, append_assoc}
 use Rattle.std.specs.List.{repeat}
 use Rattle.jv_base.proofs.Swapping.{repeat_push}

@@ -1,3 +1,4 @@
+-- Answers of `keep_value`: what its calls ask for, and what it promises.
 use Rattle.std.proofs.Common.{arith, sym, subst}
 use Rattle.std.proofs.lemmas.List.Elements.{All-get_or, All-set}
 use Rattle.text_lines.specs.bodies.Shared.{HasTold}

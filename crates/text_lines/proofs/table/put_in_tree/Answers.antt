@@ -1,3 +1,4 @@
+-- Answers of `put_in_tree`: what its calls ask for, and what it promises.
 use Rattle.text_lines.proofs.Keeping.{put_told}
 use Rattle.text_lines.proofs.table.put_in_tree.Goals as goal
 

@@ -1,3 +1,4 @@
+-- Answers of `value_in`: what its calls ask for, and what it promises.
 use Rattle.text_lines.proofs.Keeping.{found_told, lent_told}
 use Rattle.text_lines.proofs.table.value_in.Goals as goal
 

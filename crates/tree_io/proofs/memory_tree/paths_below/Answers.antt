@@ -1,3 +1,4 @@
+-- Answers of `paths_below`: what its calls ask for, and what it promises.
 use Rattle.std.proofs.Common.{◌≡◌, ℕ, List, ◌++◌, ap, sym, subst, ◌∙◌}
 use Rattle.std.proofs.lemmas.List.{append-nil}
 use Rattle.tree_io.specs.Below.{paths_below, IsAscending}

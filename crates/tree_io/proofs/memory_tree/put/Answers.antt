@@ -1,3 +1,4 @@
+-- Answers of `put`: what its calls ask for, and what it promises.
 use Rattle.tree_io.proofs.Told.{put_told}
 use Rattle.tree_io.proofs.memory_tree.put.Goals as goal
 

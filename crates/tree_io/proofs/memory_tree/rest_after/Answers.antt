@@ -1,3 +1,4 @@
+-- Answers of `rest_after`: what its calls ask for, and what it promises.
 use Rattle.tree_io.proofs.Below.{stripped}
 use Rattle.tree_io.proofs.memory_tree.rest_after.Goals as goal
 

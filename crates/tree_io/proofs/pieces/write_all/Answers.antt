@@ -1,3 +1,4 @@
+-- Answers of `write_all`: what its calls ask for, and what it promises.
 use Rattle.std.proofs.Common.{◌++◌, take}
 use Rattle.tree_io.proofs.Known.{appends_more, moves_front}
 use Rattle.tree_io.proofs.pieces.write_all.Goals as goal

@@ -1,3 +1,4 @@
+-- Answers of `two_runs`: what its calls ask for, and what it promises.
 use Rattle.type_sound.proofs.RowsTaken.{failing_never_wrong, failing_taken}
 use Rattle.type_sound.proofs.RowsTyped.{failing_typed}
 use Rattle.type_sound.proofs.RowsUnset.{goes_wrong, not_typed}

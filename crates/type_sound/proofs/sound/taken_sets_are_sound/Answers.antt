@@ -1,3 +1,4 @@
+-- Answers of `taken_sets_are_sound`: what its calls ask for, and what it promises.
 use Rattle.type_sound.proofs.Whole.{never_goes_wrong, same_whole, starts_fit, step_keeps, taken_sound}
 use Rattle.type_sound.proofs.sound.taken_sets_are_sound.Goals as goal
 

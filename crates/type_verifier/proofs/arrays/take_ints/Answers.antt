@@ -1,3 +1,4 @@
+-- Answers of `take_ints`: what its calls ask for, and what it promises.
 use Rattle.std.proofs.Common.{replicate}
 use Rattle.class_model.specs.declared.frame.VType.TheVariants as vtype
 use Rattle.type_verifier.specs.Effects.{all_popped}

@@ -1,3 +1,4 @@
+-- Answers of `are_same_locals`: what its calls ask for, and what it promises.
 use Rattle.std.proofs.Common.{◌∙◌}
 use Rattle.class_model.specs.FrameLists.{frame_numbered}
 use Rattle.type_verifier.proofs.Asking.{rest_same}

@@ -1,3 +1,4 @@
+-- Answers of `has_same_locals`: what its calls ask for, and what it promises.
 use Rattle.std.proofs.Common.{◌≡◌, Bool, IsTrue, sym, ◌∙◌, arith}
 use Rattle.class_model.specs.FrameLists.{frame_numbered}
 use Rattle.type_verifier.specs.bodies.Asked.{locals_at}

@@ -1,3 +1,4 @@
+-- Answers of `put_asked`: what its calls ask for, and what it promises.
 use Rattle.std.proofs.Common.{List, ℕ, Option, set, subst, refl}
 use Rattle.std.specs.Prelude.{IfSome}
 use Rattle.type_verifier.specs.bodies.Asked.{IsStoodFor, StandsForPlace}

@@ -1,3 +1,4 @@
+-- Answers of `is_stack_assignable`: what its calls ask for, and what it promises.
 use Rattle.std.proofs.Common.{List, reverse, sym, ap, ◌∙◌}
 use Rattle.std.specs.Cmp.Lexicographic.{pointwise}
 use Rattle.class_model.specs.declared.frame.VType.{VType}

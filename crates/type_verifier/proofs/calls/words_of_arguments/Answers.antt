@@ -1,3 +1,4 @@
+-- Answers of `words_of_arguments`: what its calls ask for, and what it promises.
 use Rattle.std.proofs.Common.{◌∙◌, sym, map, refl, arith}
 use Rattle.class_model.specs.Frames.{vtype_of}
 use Rattle.jv_base.specs.declared.types.FieldType.{FieldType}

@@ -1,3 +1,4 @@
+-- Answers of `chain_of`: what its calls ask for, and what it promises.
 use Rattle.std.proofs.Common.{◌≡◌, ◌<◌, ◌≤◌, ◌-◌, ℕ, get_or, ap, subst, length, arith}
 use Rattle.std.proofs.lemmas.List.{get_or_default}
 use Rattle.class_model.specs.declared.code.Handler.{Handler}

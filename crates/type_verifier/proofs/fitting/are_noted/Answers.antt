@@ -1,3 +1,4 @@
+-- Answers of `are_noted`: what its calls ask for, and what it promises.
 use Rattle.std.proofs.Common.{arith, ◌∙◌, ◌<◌, length}
 use Rattle.std.proofs.lemmas.List.{get_or_default}
 use Rattle.class_model.specs.declared.frame.VType.TheVariants as vtype

@@ -1,3 +1,4 @@
+-- Answers of `forget_begun`: what its calls ask for, and what it promises.
 use Rattle.std.proofs.Common.{sym, ◌+◌, ◌∙◌}
 use Rattle.type_verifier.specs.bodies.Seen.{environment_of}
 use Rattle.type_verifier.proofs.Telling.{none_noted, noted_still}

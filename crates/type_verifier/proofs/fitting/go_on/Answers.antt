@@ -1,3 +1,4 @@
+-- Answers of `go_on`: what its calls ask for, and what it promises.
 use Rattle.std.proofs.Common.{ℕ, ap, subst, List, Option, Some, refl, length}
 use Rattle.class_model.specs.declared.frame.VType.{VType}
 use Rattle.type_verifier.specs.bodies.Noting.{Notes}

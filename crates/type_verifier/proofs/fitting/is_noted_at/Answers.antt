@@ -1,3 +1,4 @@
+-- Answers of `is_noted_at`: what its calls ask for, and what it promises.
 use Rattle.type_verifier.proofs.Noting.{noted_at}
 use Rattle.type_verifier.proofs.fitting.is_noted_at.Goals as goal
 

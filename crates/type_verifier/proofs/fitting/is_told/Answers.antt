@@ -1,3 +1,4 @@
+-- Answers of `is_told`: what its calls ask for, and what it promises.
 use Rattle.std.proofs.Common.{List, Option, length, ap, subst, ◌∙◌}
 use Rattle.std.specs.Prelude.{min}
 use Rattle.class_model.specs.declared.frame.VType.{VType}

@@ -1,3 +1,4 @@
+-- Answers of `note_many`: what its calls ask for, and what it promises.
 use Rattle.type_verifier.proofs.Noting.{notes_all}
 use Rattle.type_verifier.proofs.fitting.note_many.Goals as goal
 

@@ -1,3 +1,4 @@
+-- Answers of `pad`: what its calls ask for, and what it promises.
 use Rattle.std.proofs.Common.{arith}
 use Rattle.type_verifier.specs.Frames.{padded}
 use Rattle.type_verifier.proofs.Padding.{pad_more}

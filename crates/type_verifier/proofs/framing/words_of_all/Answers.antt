@@ -1,3 +1,4 @@
+-- Answers of `words_of_all`: what its calls ask for, and what it promises.
 use Rattle.std.proofs.Common.{sym, ap, ◌∙◌, List}
 use Rattle.std.specs.List.{list_any}
 use Rattle.class_model.specs.declared.frame.VType.{VType}

@@ -1,3 +1,4 @@
+-- Answers of `are_assignable_in`: what its calls ask for, and what it promises.
 use Rattle.type_verifier.specs.Assignable.{is_assignable}
 use Rattle.type_verifier.proofs.Handled.{else_begun}
 use Rattle.type_verifier.proofs.handlers.are_assignable_in.Goals as goal

@@ -1,3 +1,4 @@
+-- Answers of `ask_handlers`: what its calls ask for, and what it promises.
 use Rattle.std.proofs.Common.{sym, subst, ◌∙◌}
 use Rattle.std.proofs.lemmas.Bool.{eqb-true}
 use Rattle.type_verifier.specs.bodies.Seen.{environment_of}

@@ -1,3 +1,4 @@
+-- Answers of `fits_changed`: what its calls ask for, and what it promises.
 use Rattle.std.proofs.Common.{◌∙◌, sym, ap, Option}
 use Rattle.std.specs.Option.{option_map}
 use Rattle.type_verifier.specs.declared.declared.Declared.{Declared}

@@ -1,3 +1,4 @@
+-- Answers of `is_covered`: what its calls ask for, and what it promises.
 use Rattle.std.proofs.Common.{◌≡◌, List, ℕ, length, get_or, false, ap, sym, ◌∙◌, arith, below_more}
 use Rattle.std.proofs.lemmas.Option.{get_or_from_slice_get}
 use Rattle.type_verifier.specs.bodies.Asked.{handler_at, no_handler}

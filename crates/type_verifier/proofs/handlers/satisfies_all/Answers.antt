@@ -1,3 +1,4 @@
+-- Answers of `satisfies_all`: what its calls ask for, and what it promises.
 use Rattle.type_verifier.specs.bodies.Seen.{environment_of}
 use Rattle.type_verifier.proofs.Asking.{uncovered_holds}
 use Rattle.type_verifier.proofs.handlers.satisfies_all.Goals as goal

@@ -1,3 +1,4 @@
+-- Answers of `satisfies_behind`: what its calls ask for, and what it promises.
 use Rattle.std.proofs.Common.{◌≡◌, List, ℕ, length, get_or, true, ap, sym, ◌∙◌, arith, below_more}
 use Rattle.std.proofs.lemmas.Bool.{eqb-true}
 use Rattle.type_verifier.specs.bodies.Asked.{handler_at, satisfies_if_behind}

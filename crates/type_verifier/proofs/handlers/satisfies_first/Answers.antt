@@ -1,3 +1,4 @@
+-- Answers of `satisfies_first`: what its calls ask for, and what it promises.
 use Rattle.std.proofs.Common.{◌≡◌, ◌<◌, ◌+◌, ℕ, Option, Some, None, get_or, length, sym, ap, subst, ◌∙◌, arith}
 use Rattle.type_verifier.specs.declared.chain.Chain.{Chain}
 use Rattle.type_verifier.specs.bodies.Chained.{IsFirstFrom, IsSatisfiedBefore, from_of}

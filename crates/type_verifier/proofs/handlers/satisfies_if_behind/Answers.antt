@@ -1,3 +1,4 @@
+-- Answers of `satisfies_if_behind`: what its calls ask for, and what it promises.
 use Rattle.std.proofs.Common.{sym, ◌∙◌}
 use Rattle.type_verifier.specs.bodies.Seen.{environment_of}
 use Rattle.type_verifier.proofs.Asking.{known_numbered}

@@ -1,3 +1,4 @@
+-- Answers of `satisfies_since`: what its calls ask for, and what it promises.
 use Rattle.std.proofs.Common.{◌≡◌, Bool, subst}
 use Rattle.std.specs.Prelude.{IfOk}
 use Rattle.type_verifier.specs.bodies.Seen.{environment_of}

@@ -1,3 +1,4 @@
+-- Answers of `far_above`: what its calls ask for, and what it promises.
 use Rattle.type_verifier.proofs.Climbing.{far_here}
 use Rattle.type_verifier.proofs.hierarchy.far_above.Goals as goal
 

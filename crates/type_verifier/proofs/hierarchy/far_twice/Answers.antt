@@ -1,3 +1,4 @@
+-- Answers of `far_twice`: what its calls ask for, and what it promises.
 use Rattle.std.proofs.Common.{sym, ◌∙◌}
 use Rattle.type_verifier.proofs.Climbing.{far_then, known_at}
 use Rattle.type_verifier.proofs.hierarchy.far_twice.Goals as goal

@@ -1,3 +1,4 @@
+-- Answers of `first_step`: what its calls ask for, and what it promises.
 use Rattle.type_verifier.proofs.Climbing.{far_here}
 use Rattle.type_verifier.proofs.hierarchy.first_step.Goals as goal
 

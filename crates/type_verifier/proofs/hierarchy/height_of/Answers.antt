@@ -1,3 +1,4 @@
+-- Answers of `height_of`: what its calls ask for, and what it promises.
 use Rattle.std.proofs.Common.{length, ◌∙◌, arith}
 use Rattle.type_verifier.proofs.Climbing.{count_low, counted_none}
 use Rattle.type_verifier.proofs.hierarchy.height_of.Goals as goal

@@ -1,3 +1,4 @@
+-- Answers of `is_met`: what its calls ask for, and what it promises.
 use Rattle.std.proofs.Common.{sym, ◌∙◌, arith}
 use Rattle.type_verifier.proofs.Climbing.{known_at, met_here}
 use Rattle.type_verifier.proofs.hierarchy.is_met.Goals as goal

@@ -1,3 +1,4 @@
+-- Answers of `next_above`: what its calls ask for, and what it promises.
 use Rattle.std.proofs.Common.{arith}
 use Rattle.type_verifier.proofs.Climbing.{super_if}
 use Rattle.type_verifier.proofs.hierarchy.next_above.Goals as goal

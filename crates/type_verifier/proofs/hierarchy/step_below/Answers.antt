@@ -1,3 +1,4 @@
+-- Answers of `step_below`: what its calls ask for, and what it promises.
 use Rattle.std.proofs.Common.{refl, arith}
 use Rattle.type_verifier.proofs.Climbing.{one_higher, step_super}
 use Rattle.type_verifier.proofs.hierarchy.step_below.Goals as goal

@@ -1,3 +1,4 @@
+-- Answers of `codes_are_typed_or_at_fault`: what its calls ask for, and what it promises.
 use Rattle.type_verifier.proofs.TypedLaw.{never_both, one_fault}
 use Rattle.type_verifier.proofs.laws.codes_are_typed_or_at_fault.Goals as goal
 

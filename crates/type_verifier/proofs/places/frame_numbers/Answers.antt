@@ -1,3 +1,4 @@
+-- Answers of `frame_numbers`: what its calls ask for, and what it promises.
 use Rattle.std.proofs.Common.{◌<◌, ◌-◌, ℕ, Some, set, sym, subst, arith}
 use Rattle.class_model.specs.FrameLists.{no_frame}
 use Rattle.type_verifier.specs.bodies.Marks.{AreNumbersFrom}

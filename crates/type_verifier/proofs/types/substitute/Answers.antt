@@ -1,3 +1,4 @@
+-- Answers of `substitute`: what its calls ask for, and what it promises.
 use Rattle.std.proofs.Common.{◌≡◌, ◌<◌, ◌∙◌, get_or, length, sym, ap, arith}
 use Rattle.std.specs.Prelude.{if◌then◌else◌}
 use Rattle.class_model.specs.Frames.{words_of_type}

@@ -1,3 +1,4 @@
+-- Answers of `class_fault`: what its calls ask for, and what it promises.
 use Rattle.std.proofs.Common.{ℕ, ◌<◌, length, Option, ◌∙◌, sym, arith}
 use Rattle.link_check.proofs.First.{first_here, first_next}
 use Rattle.class_model.specs.declared.class.Method.{Method}

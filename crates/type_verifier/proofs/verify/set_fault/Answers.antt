@@ -1,3 +1,4 @@
+-- Answers of `set_fault`: what its calls ask for, and what it promises.
 use Rattle.std.proofs.Common.{ℕ, ◌<◌, length, List, Option, ◌∙◌, ap, sym, arith}
 use Rattle.std.specs.List.{enumerate_from}
 use Rattle.link_check.proofs.First.{first_flat, first_here, first_next}

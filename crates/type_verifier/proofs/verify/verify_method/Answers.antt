@@ -1,3 +1,4 @@
+-- Answers of `verify_method`: what its calls ask for, and what it promises.
 use Rattle.std.proofs.Common.{Result, subst}
 use Rattle.jv_base.specs.Outcome.{IsDue}
 use Rattle.type_verifier.specs.declared.fault.TypeFault.{TypeFault}

@@ -1,3 +1,4 @@
+-- Answers of `verify_set`: what its calls ask for, and what it promises.
 use Rattle.std.proofs.Common.{◌∙◌, sym}
 use Rattle.type_verifier.proofs.SetLaw.{fault_place, set_apart, set_fault, set_typed}
 use Rattle.type_verifier.proofs.verify.verify_set.Goals as goal

@@ -1,3 +1,4 @@
+-- Answers of `pass_instruction`: what its calls ask for, and what it promises.
 use Rattle.std.proofs.Common.{sym, subst}
 use Rattle.type_verifier.specs.bodies.Seen.{environment_of}
 use Rattle.type_verifier.specs.bodies.Since.{IsSince}

@@ -1,3 +1,4 @@
+-- Answers of `walk`: what its calls ask for, and what it promises.
 use Rattle.std.proofs.Common.{◌≡◌, ◌≤◌, ◌+◌, ◌-◌, subst, ℕ, Bool, List, length, Some, Err, Result, refl, sym, ap, ◌∙◌}
 use Rattle.std.proofs.Common.{arith}
 use Rattle.std.proofs.lemmas.Option.{get_or_from_slice_get, slice_get_within}

@@ -1,3 +1,4 @@
+-- Answers of `item_number`: what its calls ask for, and what it promises.
 use Rattle.std.proofs.Common.{List, ℕ, Err, ap, ◌∙◌, refl, Result}
 use Rattle.command_frame.specs.declared.refusal.Refusal.{Refusal}
 use Rattle.why_command.specs.Due.{no_item, or_no_item}

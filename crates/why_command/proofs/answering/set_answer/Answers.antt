@@ -1,3 +1,4 @@
+-- Answers of `set_answer`: what its calls ask for, and what it promises.
 use Rattle.std.proofs.Common.{ℕ, List, length, ap, subst, ◌∙◌}
 use Rattle.std.proofs.lemmas.Result.{err_from_is_err_and}
 use Rattle.mark_core.specs.declared.system.System.{System}

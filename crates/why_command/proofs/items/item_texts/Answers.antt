@@ -1,3 +1,4 @@
+-- Answers of `item_texts`: what its calls ask for, and what it promises.
 use Rattle.std.proofs.Common.{◌++◌, List, ℕ, sym, ap, ◌∙◌, arith}
 use Rattle.std.proofs.lemmas.List.{take_all}
 use Rattle.list_texts.specs.ItemTexts.{item_texts, item_texts_of}

@@ -1,3 +1,4 @@
+-- Answers of `push_members`: what its calls ask for, and what it promises.
 use Rattle.std.proofs.Common.{◌≤◌, ◌+◌, ◌<◌, ◌++◌, List, ℕ, length, map, ap, ◌∙◌, arith}
 use Rattle.std.proofs.lemmas.List.{take_all}
 use Rattle.report_text.specs.Spelled.{member_texts}

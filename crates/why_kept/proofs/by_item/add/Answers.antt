@@ -1,3 +1,4 @@
+-- Answers of `add`: what its calls ask for, and what it promises.
 use Rattle.std.proofs.Common.{◌≡◌, ◌∷◌, ◌++◌, [], List, ◌∙◌, ap, set}
 use Rattle.std.proofs.lemmas.List.{get_or_default}
 use Rattle.mark_core.specs.declared.system.Pair.{Pair}

@@ -1,3 +1,4 @@
+-- Answers of `add_pair`: what its calls ask for, and what it promises.
 use Rattle.why_kept.proofs.Listing.{adds_trans}
 use Rattle.why_kept.proofs.by_item.add_pair.Goals as goal
 

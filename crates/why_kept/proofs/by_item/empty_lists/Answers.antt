@@ -1,3 +1,4 @@
+-- Answers of `empty_lists`: what its calls ask for, and what it promises.
 use Rattle.std.proofs.Common.{◌≡◌, List, [], length, sym, subst, ap, ◌∙◌, arith}
 use Rattle.std.specs.List.{All}
 use Rattle.std.proofs.lemmas.List.{length_push}

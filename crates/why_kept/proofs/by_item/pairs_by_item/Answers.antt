@@ -1,3 +1,4 @@
+-- Answers of `pairs_by_item`: what its calls ask for, and what it promises.
 use Rattle.std.proofs.Common.{◌<◌, List, length, get_or, sym, subst, ap, arith, take_all}
 use Rattle.std.specs.List.{Contains}
 use Rattle.mark_core.specs.Valid.{PairBelow}

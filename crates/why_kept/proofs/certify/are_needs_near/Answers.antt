@@ -1,3 +1,4 @@
+-- Answers of `are_needs_near`: what its calls ask for, and what it promises.
 use Rattle.std.proofs.Common.{◌+◌, ⊎_elim, sym, subst, arith}
 use Rattle.std.proofs.lemmas.Bool.{cases_eq}
 use Rattle.mark_core.specs.Marks.{needs_of}

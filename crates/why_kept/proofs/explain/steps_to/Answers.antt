@@ -1,3 +1,4 @@
+-- Answers of `steps_to`: what its calls ask for, and what it promises.
 use Rattle.std.proofs.Common.{◌≡◌, ◌<◌, ◌∷◌, [], ℕ, List, length, get_or, reverse, sym, subst, ap, ◌∙◌, arith, rules}
 use Rattle.std.specs.BTreeSet.{insert_key}
 use Rattle.std.proofs.lemmas.Grind.{common_steps}

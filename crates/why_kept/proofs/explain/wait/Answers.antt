@@ -1,3 +1,4 @@
+-- Answers of `wait`: what its calls ask for, and what it promises.
 use Rattle.why_kept.proofs.explain.wait.Goals as goal
 
 pub returns : goal.returns

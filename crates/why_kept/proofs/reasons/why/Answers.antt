@@ -1,3 +1,4 @@
+-- Answers of `why`: what its calls ask for, and what it promises.
 use Rattle.std.proofs.Common.{List, ℕ, sym, subst}
 use Rattle.why_kept.specs.Levels.{AreLeast, IsCertified}
 use Rattle.why_kept.specs.Steps.{AreSteps}

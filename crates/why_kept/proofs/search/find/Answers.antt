@@ -1,3 +1,4 @@
+-- Answers of `find`: what its calls ask for, and what it promises.
 use Rattle.std.proofs.Common.{◌≡◌, ◌<◌, refl, sym, subst, arith}
 use Rattle.std.specs.Vec.{with_item}
 use Rattle.why_kept.specs.bodies.Searching.{level_in}

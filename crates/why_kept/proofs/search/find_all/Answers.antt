@@ -1,3 +1,4 @@
+-- Answers of `find_all`: what its calls ask for, and what it promises.
 use Rattle.std.proofs.Common.{◌≤◌, take_all, subst, take, arith}
 use Rattle.std.proofs.lemmas.List.Elements.{All-more, All-get_or}
 use Rattle.why_kept.specs.Derivations.{IsDerivedAt}

@@ -1,3 +1,4 @@
+-- Answers of `find_by_pair`: what its calls ask for, and what it promises.
 use Rattle.std.proofs.Common.{◌<◌, ℕ, sym, subst, arith}
 use Rattle.why_kept.proofs.Deriving.{pair_due}
 use Rattle.why_kept.proofs.Finding.{read_level}

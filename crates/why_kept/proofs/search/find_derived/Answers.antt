@@ -1,3 +1,4 @@
+-- Answers of `find_derived`: what its calls ask for, and what it promises.
 use Rattle.std.proofs.Common.{take_all, subst, take, arith, get_or}
 use Rattle.std.specs.List.{All, Contains}
 use Rattle.std.proofs.lemmas.List.Elements.{All-contains, All-more, All-get_or, All-weaker}

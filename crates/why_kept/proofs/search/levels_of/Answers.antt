@@ -1,3 +1,4 @@
+-- Answers of `levels_of`: what its calls ask for, and what it promises.
 use Rattle.std.proofs.Common.{◌≡◌, ◌+◌, ◌<◌, ◌≤◌, ◌++◌, [], ℕ, length, get_or, replicate, refl, sym, subst, ap, arith}
 use Rattle.std.proofs.Common.{rules}
 use Rattle.std.specs.List.{All}

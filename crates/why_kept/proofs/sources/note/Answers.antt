@@ -1,3 +1,4 @@
+-- Answers of `note`: what its calls ask for, and what it promises.
 use Rattle.std.proofs.Common.{refl, ap, ◌∙◌, set}
 use Rattle.std.proofs.lemmas.List.{get_or_default}
 use Rattle.why_kept.specs.bodies.Noting.{note_if}

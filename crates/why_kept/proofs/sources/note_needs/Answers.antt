@@ -1,3 +1,4 @@
+-- Answers of `note_needs`: what its calls ask for, and what it promises.
 use Rattle.std.proofs.Common.{◌≡◌, ◌<◌, [], sym, subst, ap, ◌∙◌, get_or, length, arith}
 use Rattle.std.specs.List.{All}
 use Rattle.std.proofs.lemmas.List.{get_or_default}

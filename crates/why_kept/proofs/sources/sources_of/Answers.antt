@@ -1,3 +1,4 @@
+-- Answers of `sources_of`: what its calls ask for, and what it promises.
 use Rattle.std.proofs.Common.{◌≡◌, ◌<◌, List, length, get_or, replicate, ◌∙◌, sym, subst, ap, arith, rules, take_all}
 use Rattle.std.specs.List.{find, range_with_len}
 use Rattle.mark_core.specs.Valid.{PairBelow}

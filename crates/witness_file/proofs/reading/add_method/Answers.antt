@@ -1,3 +1,4 @@
+-- Answers of `add_method`: what its calls ask for, and what it promises.
 use Rattle.witness_file.proofs.MethodsTold.{method_keeps}
 use Rattle.witness_file.proofs.reading.add_method.Goals as goal
 

@@ -1,3 +1,4 @@
+-- Answers of `pad`: what its calls ask for, and what it promises.
 use Rattle.std.proofs.Common.{◌∙◌, arith}
 use Rattle.witness_file.proofs.StepLines.{pad_pushed}
 use Rattle.witness_file.proofs.steps.pad.Goals as goal

@@ -1,3 +1,4 @@
+-- Answers of `push_method_lines`: what its calls ask for, and what it promises.
 use Rattle.witness_file.proofs.Texts.{method_pushed}
 use Rattle.witness_file.proofs.writing.push_method_lines.Goals as goal
 

@@ -1,3 +1,4 @@
+-- Answers of `push_step`: what its calls ask for, and what it promises.
 use Rattle.std.proofs.Common.{sym, ◌∙◌}
 use Rattle.witness_file.proofs.Texts.{step_pushed}
 use Rattle.witness_file.proofs.writing.push_step.Goals as goal

@@ -1,3 +1,4 @@
+-- Answers of `push_steps`: what its calls ask for, and what it promises.
 use Rattle.std.proofs.Common.{arith}
 use Rattle.witness_file.proofs.Texts.{next_step}
 use Rattle.witness_file.proofs.writing.push_steps.Goals as goal

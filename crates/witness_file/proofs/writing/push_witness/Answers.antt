@@ -1,3 +1,4 @@
+-- Answers of `push_witness`: what its calls ask for, and what it promises.
 use Rattle.witness_file.proofs.Texts.{witness_pushed}
 use Rattle.witness_file.proofs.writing.push_witness.Goals as goal
 

@@ -1,3 +1,4 @@
+-- Answers of `write_witness`: what its calls ask for, and what it promises.
 use Rattle.std.proofs.Common.{◌++◌, ◌∙◌, ap}
 use Rattle.witness_file.specs.WitnessReading.{read_witness}
 use Rattle.witness_file.specs.Witnesses.{witness_text}

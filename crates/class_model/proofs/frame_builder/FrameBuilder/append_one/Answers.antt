@@ -1,3 +1,4 @@
+-- Answers of `FrameBuilder::append_one`: what its calls ask for, and what it promises.
 use Rattle.std.proofs.Common.{arith}
 use Rattle.class_model.proofs.Tops.{few_words}
 use Rattle.class_model.proofs.Built.{words_short, built_more, view_more}

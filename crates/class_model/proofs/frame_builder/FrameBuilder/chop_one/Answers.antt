@@ -1,3 +1,4 @@
+-- Answers of `FrameBuilder::chop_one`: what its calls ask for, and what it promises.
 use Rattle.std.proofs.Common.{◌≡◌, ◌∙◌, sym}
 use Rattle.class_model.specs.Frames.{cut_tops}
 use Rattle.class_model.specs.bodies.TypeLists.{types_in, IsHeld}

@@ -1,3 +1,4 @@
+-- Answers of `FrameBuilder::len`: what its calls ask for, and what it promises.
 use Rattle.std.proofs.Common.{sym}
 use Rattle.class_model.proofs.TypesAbove.{length-up_to}
 use Rattle.class_model.proofs.frame_builder.FrameBuilder.len.Goals as goal

@@ -1,3 +1,4 @@
+-- Answers of `FrameBuilder::push`: what its calls ask for, and what it promises.
 use Rattle.class_model.proofs.Built.{view_pushed}
 use Rattle.class_model.proofs.frame_builder.FrameBuilder.push.Goals as goal
 

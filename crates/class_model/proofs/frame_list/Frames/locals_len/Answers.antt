@@ -1,3 +1,4 @@
+-- Answers of `Frames::locals_len`: what its calls ask for, and what it promises.
 use Rattle.std.proofs.Common.{length, ap, sym, ◌∙◌}
 use Rattle.class_model.specs.declared.frame.FrameAt.{FrameAt}
 use Rattle.class_model.proofs.TypesAbove.{length-up_to}

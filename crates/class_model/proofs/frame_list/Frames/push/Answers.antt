@@ -1,3 +1,4 @@
+-- Answers of `Frames::push`: what its calls ask for, and what it promises.
 use Rattle.std.proofs.Common.{◌≡◌, List, [], ◌∷◌, ◌++◌, map, ap, ◌∙◌}
 use Rattle.class_model.specs.declared.frame.VType.{VType}
 use Rattle.class_model.specs.declared.frame.FrameAt.{FrameAt}

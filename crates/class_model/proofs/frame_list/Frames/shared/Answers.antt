@@ -1,3 +1,4 @@
+-- Answers of `Frames::shared`: what its calls ask for, and what it promises.
 use Rattle.std.proofs.Common.{◌≡◌, length, ap, ◌∙◌, arith}
 use Rattle.class_model.specs.declared.frame.FrameAt.{FrameAt}
 use Rattle.class_model.specs.FrameLists.{frame_numbered}

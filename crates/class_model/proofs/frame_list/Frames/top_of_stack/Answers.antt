@@ -1,3 +1,4 @@
+-- Answers of `Frames::top_of_stack`: what its calls ask for, and what it promises.
 use Rattle.std.proofs.Common.{◌≡◌, ◌-◌, ◌<◌, length, List, Result, Ok, Err, ap, sym, ◌∙◌, arith, Some}
 use Rattle.std.specs.Prelude.{slice_get, IfOk}
 use Rattle.class_model.specs.declared.frame.VType.{VType}

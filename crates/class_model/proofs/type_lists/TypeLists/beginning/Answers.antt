@@ -1,3 +1,4 @@
+-- Answers of `TypeLists::beginning`: what its calls ask for, and what it promises.
 use Rattle.std.proofs.Common.{◌∙◌, arith}
 use Rattle.class_model.proofs.TypesAbove.{below_begins, begins_whole}
 use Rattle.class_model.proofs.type_lists.TypeLists.beginning.Goals as goal

@@ -1,3 +1,4 @@
+-- Answers of `TypeLists::push`: what its calls ask for, and what it promises.
 use Rattle.class_model.specs.declared.type_lists.TypeList.{TypeList}
 use Rattle.std.proofs.Common.{◌≡◌, ◌+◌, length, refl, rules}
 use Rattle.class_model.proofs.TypesAbove.{grows_by, list_above}

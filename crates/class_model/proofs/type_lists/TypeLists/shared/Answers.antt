@@ -1,3 +1,4 @@
+-- Answers of `TypeLists::shared`: what its calls ask for, and what it promises.
 use Rattle.std.proofs.Common.{arith}
 use Rattle.class_model.proofs.TypesAbove.{shorter_begins}
 use Rattle.class_model.proofs.type_lists.TypeLists.shared.Goals as goal

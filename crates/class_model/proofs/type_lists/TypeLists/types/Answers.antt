@@ -1,3 +1,4 @@
+-- Answers of `TypeLists::types`: what its calls ask for, and what it promises.
 use Rattle.std.proofs.Common.{ℕ, ap, ◌∙◌, arith}
 use mathlib.Core.List.{reverse}
 use Rattle.class_model.specs.declared.frame.VType.{VType}

@@ -1,3 +1,4 @@
+-- Answers of `TypeLists::without_tops`: what its calls ask for, and what it promises.
 use Rattle.std.proofs.Common.{◌∙◌, sym, arith}
 use Rattle.class_model.proofs.TypesAbove.{top_goes, nothing_goes}
 use Rattle.class_model.proofs.type_lists.TypeLists.without_tops.Goals as goal

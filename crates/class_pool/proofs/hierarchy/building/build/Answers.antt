@@ -1,3 +1,4 @@
+-- Answers of `build`: what its calls ask for, and what it promises.
 use Rattle.std.proofs.Common.{◌∙◌, subst}
 use Rattle.std.proofs.lemmas.Result.{err_from_is_err_and}
 use Rattle.class_pool.specs.Supertypes.{NoCycle}

@@ -1,3 +1,4 @@
+-- Answers of `check_hierarchy`: what its calls ask for, and what it promises.
 use Rattle.class_pool.proofs.CycleLaws.{cycles_passed}
 use Rattle.class_pool.proofs.hierarchy.building.check_hierarchy.Goals as goal
 

@@ -1,3 +1,4 @@
+-- Answers of `joined`: what its calls ask for, and what it promises.
 use Rattle.class_pool.proofs.CycleLaws.{none_cyclic}
 use Rattle.class_pool.proofs.hierarchy.building.joined.Goals as goal
 

@@ -1,3 +1,4 @@
+-- Answers of `members_of`: what its calls ask for, and what it promises.
 use Rattle.std.proofs.Common.{rules, ◌≡◌, ◌+◌, ◌<◌, List, length, get_or, sym, subst, arith, ◌++◌, ◌∷◌, [], take}
 use Rattle.std.specs.List.{AllZip}
 use Rattle.std.proofs.lemmas.Option.{get_or_from_slice_get}

@@ -1,3 +1,4 @@
+-- Answers of `named_classes`: what its calls ask for, and what it promises.
 use Rattle.class_pool.proofs.FaultLaws.{names_differ}
 use Rattle.class_pool.proofs.hierarchy.building.named_classes.Goals as goal
 

@@ -1,3 +1,4 @@
+-- Answers of `above`: what its calls ask for, and what it promises.
 use Rattle.std.proofs.Common.{◌≡◌, ◌∙◌, ◌<◌, ◌++◌, ◌∷◌, [], List, ℕ, length, get_or, ap, arith}
 use Rattle.class_pool.specs.bodies.Numbers.{numbers_named}
 use Rattle.class_pool.proofs.Above.{above_more}

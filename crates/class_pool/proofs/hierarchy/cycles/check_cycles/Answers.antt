@@ -1,3 +1,4 @@
+-- Answers of `check_cycles`: what its calls ask for, and what it promises.
 use Rattle.std.proofs.Common.{subst}
 use Rattle.class_pool.specs.bodies.Cycles.{FindsRanks}
 use Rattle.class_pool.proofs.CycleLaws.{none_cyclic}

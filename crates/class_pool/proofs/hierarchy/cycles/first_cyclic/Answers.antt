@@ -1,3 +1,4 @@
+-- Answers of `first_cyclic`: what its calls ask for, and what it promises.
 use Rattle.std.proofs.Common.{List, ℕ, subst}
 use Rattle.mark_core.specs.Ranks.{IsRanked}
 use Rattle.class_pool.proofs.CycleLaws.{ranked}

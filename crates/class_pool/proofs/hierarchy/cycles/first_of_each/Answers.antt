@@ -1,3 +1,4 @@
+-- Answers of `first_of_each`: what its calls ask for, and what it promises.
 use Rattle.std.proofs.Common.{◌≡◌, ◌<◌, ⊎_elim, ℕ, length, subst, arith}
 use Rattle.std.proofs.lemmas.Bool.{cases_lt, both_ways}
 use Rattle.class_pool.specs.bodies.Cycles.{HasTest}

@@ -1,3 +1,4 @@
+-- Answers of `is_cyclic`: what its calls ask for, and what it promises.
 use Rattle.std.proofs.Common.{◌≡◌, ◌∙◌, false, sym}
 use Rattle.std.proofs.lemmas.Option.{get_or_from_slice_get}
 use Rattle.mark_core.specs.declared.system.System.{System}

@@ -1,3 +1,4 @@
+-- Answers of `is_ranked`: what its calls ask for, and what it promises.
 use Rattle.class_pool.proofs.hierarchy.cycles.is_ranked.Goals as goal
 
 pub returns : goal.returns

@@ -1,3 +1,4 @@
+-- Answers of `above_class`: what its calls ask for, and what it promises.
 use Rattle.std.proofs.Common.{◌≡◌, ◌∙◌, ◌<◌, ◌++◌, ◌∷◌, [], List, ℕ, length, get_or, map, ap, arith}
 use Rattle.class_pool.specs.bodies.Graph.{number}
 use Rattle.class_pool.specs.Hierarchy.{classes_named}

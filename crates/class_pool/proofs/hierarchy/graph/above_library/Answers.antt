@@ -1,3 +1,4 @@
+-- Answers of `above_library`: what its calls ask for, and what it promises.
 use Rattle.std.proofs.Common.{◌∙◌, arith, rules}
 use Rattle.class_pool.proofs.Graphing.{few_interfaces, interface_below, interface_put, interface_there, interfaces_all}
 use Rattle.class_pool.proofs.Graphing.{super_there}

@@ -1,3 +1,4 @@
+-- Answers of `library_number`: what its calls ask for, and what it promises.
 use Rattle.std.proofs.Common.{◌∙◌, ◌+◌, ⊎_elim, sym, ap, arith}
 use Rattle.std.proofs.lemmas.Bool.{eqb-true, eqb-false, cases_eq}
 use Rattle.class_pool.proofs.Graphing.{library_at, library_length}

@@ -1,3 +1,4 @@
+-- Answers of `library_of`: what its calls ask for, and what it promises.
 use Rattle.class_pool.proofs.Graphing.{library_all, library_more}
 use Rattle.class_pool.proofs.hierarchy.graph.library_of.Goals as goal
 

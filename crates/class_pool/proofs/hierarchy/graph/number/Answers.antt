@@ -1,3 +1,4 @@
+-- Answers of `number`: what its calls ask for, and what it promises.
 use Rattle.std.proofs.Common.{◌∙◌, ◌+◌, sym, ap, arith}
 use Rattle.lib_table.proofs.Computed.{count}
 use Rattle.class_pool.specs.bodies.Graph.{number}

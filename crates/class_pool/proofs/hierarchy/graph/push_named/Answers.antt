@@ -1,3 +1,4 @@
+-- Answers of `push_named`: what its calls ask for, and what it promises.
 use Rattle.class_pool.proofs.Graphing.{is_there}
 use Rattle.class_pool.proofs.hierarchy.graph.push_named.Goals as goal
 

@@ -1,3 +1,4 @@
+-- Answers of `is_path_of`: what its calls ask for, and what it promises.
 use Rattle.class_pool.proofs.FaultLaws.{path_is_some, path_is_none}
 use Rattle.class_pool.proofs.hierarchy.rounds.is_path_of.Goals as goal
 

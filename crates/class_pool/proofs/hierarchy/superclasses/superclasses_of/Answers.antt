@@ -1,3 +1,4 @@
+-- Answers of `superclasses_of`: what its calls ask for, and what it promises.
 use Rattle.std.proofs.Common.{rules, ◌≡◌, ◌∙◌, ◌<◌, List, Option, length, get_or, sym, ap, arith, ◌++◌, ◌∷◌, []}
 use Rattle.std.proofs.lemmas.Option.{get_or_from_slice_get}
 use Rattle.jv_base.proofs.Lists.{mapped_more}

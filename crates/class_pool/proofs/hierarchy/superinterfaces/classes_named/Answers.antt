@@ -1,3 +1,4 @@
+-- Answers of `classes_named`: what its calls ask for, and what it promises.
 use Rattle.class_pool.proofs.FillingLaws.{named_put}
 use Rattle.class_pool.proofs.hierarchy.superinterfaces.classes_named.Goals as goal
 

@@ -1,3 +1,4 @@
+-- Answers of `fill`: what its calls ask for, and what it promises.
 use Rattle.std.proofs.Common.{rules, ◌∙◌, [], ◌∷◌, List, Bool, length, ap}
 use Rattle.std.specs.List.{flat_map}
 use Rattle.class_pool.specs.declared.id.ClassId.{ClassId}

@@ -1,3 +1,4 @@
+-- Answers of `fill_each`: what its calls ask for, and what it promises.
 use Rattle.std.proofs.Common.{⊎_elim, get_or, arith}
 use Rattle.class_pool.specs.bodies.Graph.{number}
 use Rattle.class_pool.specs.Hierarchy.{interfaces}

@@ -1,3 +1,4 @@
+-- Answers of `library_interfaces`: what its calls ask for, and what it promises.
 use Rattle.std.proofs.Common.{arith, rules}
 use Rattle.class_pool.proofs.Graphing.{few_interfaces, interface_below}
 use Rattle.class_pool.proofs.FillingLaws.{library_done, library_put}

@@ -1,3 +1,4 @@
+-- Answers of `superinterfaces_of`: what its calls ask for, and what it promises.
 use Rattle.std.proofs.Common.{◌≡◌, ◌+◌, ◌≤◌, length, arith}
 use Rattle.lib_table.specs.Library.{library}
 use Rattle.lib_table.proofs.Computed.{count}

@@ -1,3 +1,4 @@
+-- Answers of `walk`: what its calls ask for, and what it promises.
 use Rattle.std.proofs.Common.{◌≡◌, ◌∙◌, ◌++◌, [], ◌∷◌, List, get_or, refl, sym, ap}
 use Rattle.std.proofs.lemmas.List.{append-nil}
 use Rattle.class_pool.specs.declared.id.ClassId.{ClassId}

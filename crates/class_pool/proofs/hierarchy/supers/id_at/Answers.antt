@@ -1,3 +1,4 @@
+-- Answers of `id_at`: what its calls ask for, and what it promises.
 use Rattle.std.proofs.Common.{arith}
 use Rattle.class_pool.proofs.Graphing.{library_length}
 use Rattle.class_pool.proofs.Listing.{high_at, low_at}

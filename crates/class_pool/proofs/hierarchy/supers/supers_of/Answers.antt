@@ -1,3 +1,4 @@
+-- Answers of `supers_of`: what its calls ask for, and what it promises.
 use Rattle.std.proofs.Common.{◌≡◌, ◌∙◌, ◌+◌, ◌≤◌, ◌++◌, ◌∷◌, List, length, sym, ap, subst, arith}
 use Rattle.std.specs.List.{flat_map}
 use Rattle.lib_table.specs.Library.{library}

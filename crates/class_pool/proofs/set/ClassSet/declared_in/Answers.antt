@@ -1,3 +1,4 @@
+-- Answers of `ClassSet::declared_in`: what its calls ask for, and what it promises.
 use Rattle.std.proofs.Common.{◌∙◌, sym}
 use Rattle.class_pool.proofs.ToldMembers.{declared_below}
 use Rattle.class_pool.proofs.set.ClassSet.declared_in.Goals as goal

@@ -1,3 +1,4 @@
+-- Answers of `ClassSet::declares`: what its calls ask for, and what it promises.
 use Rattle.std.proofs.Common.{◌<◌, ◌≡◌, List, length, slice_get, Some, sym, subst}
 use Rattle.class_model.specs.declared.class.Class.{Class}
 use Rattle.class_pool.specs.declared.id.ClassId.{ClassId}

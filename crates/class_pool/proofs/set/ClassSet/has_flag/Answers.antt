@@ -1,3 +1,4 @@
+-- Answers of `ClassSet::has_flag`: what its calls ask for, and what it promises.
 use Rattle.std.proofs.Common.{◌∙◌}
 use Rattle.class_pool.specs.Found.{row_at}
 use Rattle.class_pool.proofs.ToldMembers.{told_flag}

@@ -1,3 +1,4 @@
+-- Answers of `ClassSet::is_init_member`: what its calls ask for, and what it promises.
 use Rattle.class_pool.specs.Found.{row_at}
 use Rattle.class_pool.proofs.ToldMembers.{told_init}
 use Rattle.class_pool.proofs.set.ClassSet.is_init_member.Goals as goal

@@ -1,3 +1,4 @@
+-- Answers of `ClassSet::is_sub`: what its calls ask for, and what it promises.
 use Rattle.std.proofs.Common.{◌∙◌, ◌||◌, Bool, false, true, sym, ap, subst, arith}
 use Rattle.std.specs.List.{list_any}
 use Rattle.std.proofs.lemmas.List.Elements.{All-rest}

@@ -1,3 +1,4 @@
+-- Answers of `ClassSet::method_like`: what its calls ask for, and what it promises.
 use Rattle.std.proofs.Common.{◌∙◌, sym}
 use Rattle.class_pool.specs.Found.{named_at}
 use Rattle.class_pool.proofs.ToldMembers.{declared_below}

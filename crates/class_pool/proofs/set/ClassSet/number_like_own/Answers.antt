@@ -1,3 +1,4 @@
+-- Answers of `ClassSet::number_like_own`: what its calls ask for, and what it promises.
 use Rattle.std.proofs.Common.{◌≡◌, ◌∙◌, ◌-◌, ℕ, List, length, map, slice_get, Some, sym, ap, arith}
 use Rattle.std.proofs.lemmas.Option.{same_Some, slice_get_within}
 use Rattle.jv_base.specs.Types.{method_text}

@@ -1,3 +1,4 @@
+-- Answers of `ClassSet::own_superinterfaces`: what its calls ask for, and what it promises.
 use Rattle.std.proofs.Common.{◌≡◌, [], List, sym, subst}
 use Rattle.std.specs.List.{All}
 use Rattle.class_model.specs.declared.class.Class.{Class}

@@ -1,3 +1,4 @@
+-- Answers of `texts_of`: what its calls ask for, and what it promises.
 use Rattle.std.proofs.Common.{◌≡◌, ◌∙◌, ◌<◌, List, ℕ, length, get_or, ap, arith, ◌++◌, ◌∷◌, []}
 use Rattle.jv_base.proofs.Lists.{mapped_more}
 use Rattle.class_model.specs.declared.class.Method.{Method}

@@ -1,3 +1,4 @@
+-- Answers of `insert_name`: what its calls ask for, and what it promises.
 use Rattle.std.proofs.Common.{◌∙◌, ap}
 use Rattle.indexmap.specs.IndexSet.{insert_key}
 use Rattle.jv_base.specs.Names.{is_text}

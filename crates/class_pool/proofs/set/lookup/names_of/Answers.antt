@@ -1,3 +1,4 @@
+-- Answers of `names_of`: what its calls ask for, and what it promises.
 use Rattle.std.proofs.Common.{◌≡◌, ◌∙◌, ◌<◌, List, length, get_or, ap, arith}
 use Rattle.class_model.specs.declared.class.Class.{Class}
 use Rattle.class_pool.proofs.Naming.{name_put}

@@ -1,0 +1,1 @@
+-- Answers of `is_before`: what its calls ask for, and what it promises.

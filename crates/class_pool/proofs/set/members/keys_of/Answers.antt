@@ -1,3 +1,4 @@
+-- Answers of `keys_of`: what its calls ask for, and what it promises.
 use Rattle.std.proofs.Common.{◌∙◌, ◌+◌, ◌++◌, ◌∷◌, [], sym, ap, subst}
 use Rattle.class_pool.specs.bodies.ByName.{HasKeys, Key}
 use Rattle.class_pool.proofs.Sorting.{longer}

@@ -1,3 +1,4 @@
+-- Answers of `place_of`: what its calls ask for, and what it promises.
 use Rattle.std.proofs.Common.{◌∙◌, ◌+◌, ◌-◌, ◌/◌, ◌<◌, ℕ, length, sym, ap, arith}
 use Rattle.std.proofs.lemmas.List.{get_or_default}
 use Rattle.class_pool.specs.bodies.ByName.{Key, is_before}

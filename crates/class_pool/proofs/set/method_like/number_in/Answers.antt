@@ -1,3 +1,4 @@
+-- Answers of `number_in`: what its calls ask for, and what it promises.
 use Rattle.std.proofs.Common.{◌∙◌, ◌+◌, ℕ, List, Some, None, slice_get, sym, ap}
 use Rattle.std.specs.List.{position}
 use Rattle.jv_base.specs.Types.{method_text}

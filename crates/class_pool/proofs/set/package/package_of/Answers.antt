@@ -1,3 +1,4 @@
+-- Answers of `package_of`: what its calls ask for, and what it promises.
 use Rattle.std.proofs.Common.{◌∙◌, ◌-◌, ◌≡◌, ℕ, List, ap, take, arith}
 use Rattle.class_pool.specs.Found.{package_of}
 use Rattle.class_pool.proofs.Packages.{behind_separator, without_separator}

@@ -1,3 +1,4 @@
+-- Answers of `Superclasses::up`: what its calls ask for, and what it promises.
 use Rattle.class_pool.proofs.Climbing.{up_there, upwards_there}
 use Rattle.class_pool.proofs.upwards.Superclasses.up.Goals as goal
 

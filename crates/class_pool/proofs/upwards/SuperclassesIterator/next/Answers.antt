@@ -1,3 +1,4 @@
+-- Answers of `SuperclassesIterator::next`: what its calls ask for, and what it promises.
 use Rattle.std.proofs.Common.{◌≡◌, ◌∙◌, [], sym, ap}
 use Rattle.std.specs.Option.{option_map_or}
 use Rattle.class_pool.specs.Walk.{upwards}

@@ -1,3 +1,4 @@
+-- Answers of `Signatures::check_fresh`: what its calls ask for, and what it promises.
 use Rattle.std.proofs.Common.{◌≡◌, Bool, not, List, sym, ap, ◌∙◌}
 use Rattle.std.specs.List.{list_any}
 use Rattle.format_reading.specs.declared.fault.FormatKind.TheVariants.{Repeated}

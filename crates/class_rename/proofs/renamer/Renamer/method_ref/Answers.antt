@@ -1,3 +1,4 @@
+-- Answers of `Renamer::method_ref`: what its calls ask for, and what it promises.
 use Rattle.std.proofs.Common.{subst}
 use Rattle.std.specs.Prelude.{◌≡◌, IfOk}
 use Rattle.class_rename.specs.Names.{Tables, names_in}

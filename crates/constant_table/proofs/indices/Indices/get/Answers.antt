@@ -1,3 +1,4 @@
+-- Answers of `Indices::get`: what its calls ask for, and what it promises.
 use Rattle.std.proofs.Common.{Bool, ap, ◌∙◌}
 use Rattle.std.specs.Map.{lookup}
 use Rattle.constant_table.specs.declared.key.Key.{Key}

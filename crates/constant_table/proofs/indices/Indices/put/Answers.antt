@@ -1,3 +1,4 @@
+-- Answers of `Indices::put`: what its calls ask for, and what it promises.
 use Rattle.std.proofs.Common.{◌≡◌, Bool, cond, Some, subst}
 use Rattle.std.specs.Map.{lookup}
 use Rattle.constant_table.specs.declared.key.Key.{Key}

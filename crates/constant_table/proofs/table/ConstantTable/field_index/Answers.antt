@@ -1,3 +1,4 @@
+-- Answers of `ConstantTable::field_index`: what its calls ask for, and what it promises.
 use Rattle.std.proofs.Common.{◌≡◌, List, ap, subst}
 use Rattle.constant_table.specs.bodies.Members.{field_key}
 use Rattle.class_model.specs.declared.constant.PoolConstant.{PoolConstant}

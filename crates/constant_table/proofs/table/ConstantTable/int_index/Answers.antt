@@ -1,3 +1,4 @@
+-- Answers of `ConstantTable::int_index`: what its calls ask for, and what it promises.
 use Rattle.std.proofs.Common.{◌≡◌, List, ap, subst}
 use Rattle.std.specs.Int.{w32}
 use Rattle.std.proofs.lemmas.Int.{to_z-of_z}

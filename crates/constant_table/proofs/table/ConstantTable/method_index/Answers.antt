@@ -1,3 +1,4 @@
+-- Answers of `ConstantTable::method_index`: what its calls ask for, and what it promises.
 use Rattle.std.proofs.Common.{◌≡◌, List, ap, subst, ◌∙◌}
 use Rattle.constant_table.specs.declared.finding.MemberNumbers.{MemberNumbers}
 use Rattle.constant_table.specs.bodies.Members.{method_key}

@@ -1,3 +1,4 @@
+-- Answers of `ConstantTable::new`: what its calls ask for, and what it promises.
 use Rattle.std.proofs.Common.{List, ℕ, [], sym, subst}
 use Rattle.constant_table.specs.declared.key.Key.{Key}
 use Rattle.constant_table.specs.bodies.Keys.{AreKeysOf}

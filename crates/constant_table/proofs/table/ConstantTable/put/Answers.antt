@@ -1,3 +1,4 @@
+-- Answers of `ConstantTable::put`: what its calls ask for, and what it promises.
 use Rattle.std.proofs.Common.{◌≡◌, ◌++◌, ◌+◌, List, length, ap, subst}
 use Rattle.std.specs.Prelude.{OnOk}
 use Rattle.std.specs.Int.{w16, to_be_bytes}

@@ -1,3 +1,4 @@
+-- Answers of `ConstantTable::string_index`: what its calls ask for, and what it promises.
 use Rattle.std.proofs.Common.{◌≡◌, List, ap, subst}
 use Rattle.class_model.specs.declared.constant.PoolConstant.{PoolConstant}
 use Rattle.class_model.specs.declared.constant.PoolConstant.TheVariants as constant

@@ -1,3 +1,4 @@
+-- Answers of `Texts::keep_units`: what its calls ask for, and what it promises.
 use Rattle.constant_table.proofs.Numbering.{numbers_grown, if_text}
 use Rattle.constant_table.proofs.texts.Texts.keep_units.Goals as goal
 

@@ -1,3 +1,4 @@
+-- Answers of `Texts::number_of_text`: what its calls ask for, and what it promises.
 use Rattle.std.proofs.Common.{◌≡◌, ℕ, List, sym, subst, ◌∙◌}
 use Rattle.jv_base.specs.Utf16.{units_of}
 use Rattle.constant_table.specs.bodies.Keys.{number_of}

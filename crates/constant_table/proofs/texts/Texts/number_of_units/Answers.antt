@@ -1,3 +1,4 @@
+-- Answers of `Texts::number_of_units`: what its calls ask for, and what it promises.
 use Rattle.std.proofs.Common.{◌≡◌, ℕ, List, subst, ◌∙◌}
 use Rattle.constant_table.specs.bodies.Keys.{number_of}
 use Rattle.constant_table.specs.bodies.Texts.{HasNumber}

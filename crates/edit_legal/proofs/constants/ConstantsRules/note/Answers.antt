@@ -1,3 +1,4 @@
+-- Answers of `ConstantsRules::note`: what its calls ask for, and what it promises.
 use Rattle.std.proofs.Common.{◌∙◌, sym, ap, length}
 use Rattle.edit_legal.specs.Decidable.{next_up_to, with_folded}
 use Rattle.edit_tables.specs.Marks.{none}

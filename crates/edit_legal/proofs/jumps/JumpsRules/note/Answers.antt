@@ -1,3 +1,4 @@
+-- Answers of `JumpsRules::note`: what its calls ask for, and what it promises.
 use Rattle.std.proofs.Common.{◌∙◌, sym, ap, length}
 use Rattle.edit_tables.specs.Marks.{none, with_skip}
 use Rattle.edit_legal.proofs.Noting.{aims_more, skips_more}

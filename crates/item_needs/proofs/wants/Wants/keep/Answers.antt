@@ -1,3 +1,4 @@
+-- Answers of `Wants::keep`: what its calls ask for, and what it promises.
 use Rattle.std.proofs.Common.{rules, ◌≡◌, ap, drop, subst, sym, ◌∙◌}
 use Rattle.require_sys.specs.Requires.{numbers}
 use Rattle.item_needs.specs.bodies.Known.{IsBehind, ref_wants}

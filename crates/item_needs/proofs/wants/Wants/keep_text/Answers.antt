@@ -1,3 +1,4 @@
+-- Answers of `Wants::keep_text`: what its calls ask for, and what it promises.
 use Rattle.std.proofs.Common.{rules, ◌≡◌, subst, sym}
 use Rattle.require_sys.specs.Requires.{numbers}
 use Rattle.item_needs.specs.bodies.Known.{IsBehind, text_wants}

@@ -1,3 +1,4 @@
+-- Answers of `Wants::take_needs`: what its calls ask for, and what it promises.
 use Rattle.std.proofs.Common.{rules, ◌+◌, List, ℕ, Ok, ap, subst}
 use Rattle.std.specs.Prelude.{◌≡◌}
 use Rattle.jv_base.specs.declared.outcome.OutOfMemory.{OutOfMemory}

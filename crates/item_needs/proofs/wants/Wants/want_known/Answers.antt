@@ -1,3 +1,4 @@
+-- Answers of `Wants::want_known`: what its calls ask for, and what it promises.
 use Rattle.std.proofs.Common.{List, ℕ, Option, Some, ap, slice_get, subst, sym, ◌∙◌, ◌++◌}
 use Rattle.std.specs.Prelude.{◌≡◌}
 use Rattle.require_sys.specs.Requires.{numbers}

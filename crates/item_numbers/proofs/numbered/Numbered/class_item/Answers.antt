@@ -1,3 +1,4 @@
+-- Answers of `Numbered::class_item`: what its calls ask for, and what it promises.
 use Rattle.require_sys.proofs.Numbering.{item_found}
 use Rattle.item_numbers.proofs.numbered.Numbered.class_item.Goals as goal
 

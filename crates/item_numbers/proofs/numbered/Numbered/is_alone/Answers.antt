@@ -1,3 +1,4 @@
+-- Answers of `Numbered::is_alone`: what its calls ask for, and what it promises.
 use Rattle.std.proofs.Common.{refl, sym, ◌∙◌}
 use Rattle.item_numbers.proofs.AloneLaw.{alone_found}
 use Rattle.item_numbers.proofs.numbered.Numbered.is_alone.Goals as goal

@@ -1,3 +1,4 @@
+-- Answers of `Numbered::member_item`: what its calls ask for, and what it promises.
 use Rattle.std.proofs.Common.{arith}
 use Rattle.require_sys.proofs.Numbering.{item_sum}
 use Rattle.item_numbers.proofs.numbered.Numbered.member_item.Goals as goal

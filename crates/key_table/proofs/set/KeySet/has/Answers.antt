@@ -1,3 +1,4 @@
+-- Answers of `KeySet::has`: what its calls ask for, and what it promises.
 use Rattle.std.proofs.Common.{List, ap, ◌∙◌}
 use Rattle.std.specs.List.{list_any}
 use Rattle.std.specs.Map.{keys_of}

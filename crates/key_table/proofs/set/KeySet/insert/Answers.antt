@@ -1,3 +1,4 @@
+-- Answers of `KeySet::insert`: what its calls ask for, and what it promises.
 use Rattle.std.proofs.Common.{◌++◌, ◌∷◌, [], List, ap, sym, not, is_some, ◌∙◌}
 use Rattle.std.specs.Map.{keys_of}
 use Rattle.key_table.proofs.Found.{any_there, not_again, put_new}

@@ -1,3 +1,4 @@
+-- Answers of `KeySet::keep`: what its calls ask for, and what it promises.
 use Rattle.std.proofs.Common.{◌++◌, ◌∷◌, [], List, Some, ap, sym, ◌∙◌}
 use Rattle.std.specs.List.{position}
 use Rattle.std.specs.Map.{keys_of}

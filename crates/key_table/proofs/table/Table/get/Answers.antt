@@ -1,3 +1,4 @@
+-- Answers of `Table::get`: what its calls ask for, and what it promises.
 use Rattle.std.proofs.Common.{List, ◌∙◌, get_or, ap}
 use Rattle.key_table.proofs.Found.{no_value, value_of_place}
 use Rattle.key_table.proofs.table.Table.get.Goals as goal

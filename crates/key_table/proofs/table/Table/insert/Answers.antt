@@ -1,3 +1,4 @@
+-- Answers of `Table::insert`: what its calls ask for, and what it promises.
 use Rattle.std.proofs.Common.{List, get_or, sym, ap, subst, ◌∙◌, ◌<◌, length}
 use Rattle.std.specs.Prelude.{slice_set, is_ok}
 use Rattle.key_table.specs.Tables.{ArePlaced}

@@ -1,3 +1,4 @@
+-- Answers of `Table::insert_new`: what its calls ask for, and what it promises.
 use Rattle.std.proofs.Common.{List, refl, ap, ◌∙◌}
 use Rattle.std.specs.List.{position}
 use Rattle.std.specs.Map.{keys_of}

@@ -1,3 +1,4 @@
+-- Answers of `Table::place`: what its calls ask for, and what it promises.
 use Rattle.std.proofs.Common.{ℕ, Option, List, sym, ap, ◌∙◌}
 use Rattle.std.specs.List.{position}
 use Rattle.std.specs.BTreeMap.{is_at}

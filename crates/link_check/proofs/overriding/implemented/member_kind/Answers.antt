@@ -1,3 +1,4 @@
+-- Answers of `member_kind`: what its calls ask for, and what it promises.
 use Rattle.std.proofs.Common.{◌∙◌, sym}
 use Rattle.link_check.proofs.Methods.{instance_is_method}
 use Rattle.link_check.proofs.overriding.implemented.member_kind.Goals as goal

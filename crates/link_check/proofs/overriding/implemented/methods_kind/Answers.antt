@@ -1,3 +1,4 @@
+-- Answers of `methods_kind`: what its calls ask for, and what it promises.
 use Rattle.std.proofs.Common.{List, [], ◌<◌, ◌≡◌, cond, length, take, ◌∙◌, ap, sym, arith}
 use Rattle.std.specs.List.{flat_map}
 use Rattle.std.proofs.lemmas.List.{take_all}

@@ -1,3 +1,4 @@
+-- Answers of `own_kind`: what its calls ask for, and what it promises.
 use Rattle.std.proofs.Common.{List, ◌∙◌, ap}
 use Rattle.std.specs.List.{flat_map}
 use Rattle.class_pool.specs.declared.id.ClassId.{ClassId}

@@ -1,3 +1,4 @@
+-- Answers of `superinterfaces_kind`: what its calls ask for, and what it promises.
 use Rattle.std.proofs.Common.{List, ◌∙◌, ap, sym}
 use Rattle.std.specs.List.{flat_map}
 use Rattle.std.proofs.lemmas.List.Elements.{All-rest}

@@ -1,3 +1,4 @@
+-- Answers of `fits`: what its calls ask for, and what it promises.
 use Rattle.link_check.proofs.Inheriting.{fits_if}
 use Rattle.link_check.proofs.overriding.inherited.fits.Goals as goal
 

@@ -1,3 +1,4 @@
+-- Answers of `known_of`: what its calls ask for, and what it promises.
 use Rattle.std.proofs.Common.{refl, sym, ◌∙◌}
 use Rattle.std.proofs.lemmas.Bool.{not-true}
 use Rattle.link_check.proofs.overriding.inherited.known_of.Goals as goal

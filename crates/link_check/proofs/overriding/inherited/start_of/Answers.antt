@@ -1,3 +1,4 @@
+-- Answers of `start_of`: what its calls ask for, and what it promises.
 use Rattle.std.proofs.Common.{sym, ◌∙◌, subst, arith}
 use Rattle.link_check.specs.bodies.Inherited.{IsStart}
 use Rattle.link_check.proofs.Inheriting.{start_above, start_super}

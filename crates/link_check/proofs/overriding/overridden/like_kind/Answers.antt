@@ -1,3 +1,4 @@
+-- Answers of `like_kind`: what its calls ask for, and what it promises.
 use Rattle.std.proofs.Common.{◌∙◌, sym}
 use Rattle.link_check.proofs.Likes.{like_is_method}
 use Rattle.link_check.proofs.overriding.overridden.like_kind.Goals as goal

@@ -1,3 +1,4 @@
+-- Answers of `overriding_kind`: what its calls ask for, and what it promises.
 use Rattle.std.proofs.Common.{Option, IfSome, ◌∙◌, ap, subst, sym}
 use Rattle.std.proofs.lemmas.List.Elements.{All-rest, All-same}
 use Rattle.class_pool.specs.declared.id.ClassId.{ClassId}

@@ -1,3 +1,4 @@
+-- Answers of `field_found`: what its calls ask for, and what it promises.
 use Rattle.std.proofs.Common.{◌∙◌, ◌∷◌, ap, sym}
 use Rattle.std.specs.List.{flat_map}
 use Rattle.std.specs.Option.{option_or}

@@ -1,3 +1,4 @@
+-- Answers of `nearest_declared`: what its calls ask for, and what it promises.
 use Rattle.std.proofs.Common.{◌∙◌, sym}
 use Rattle.std.proofs.lemmas.List.Elements.{All-rest}
 use Rattle.class_pool.specs.Hierarchy.{IsClass}

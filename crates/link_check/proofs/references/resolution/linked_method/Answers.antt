@@ -1,3 +1,4 @@
+-- Answers of `linked_method`: what its calls ask for, and what it promises.
 use Rattle.std.proofs.Common.{◌∙◌, ap, sym}
 use Rattle.std.specs.Bool.{beq}
 use Rattle.class_pool.specs.declared.id.ClassId.TheVariants.{Prog}

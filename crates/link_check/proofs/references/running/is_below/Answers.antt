@@ -1,3 +1,4 @@
+-- Answers of `is_below`: what its calls ask for, and what it promises.
 use Rattle.std.proofs.Common.{sym, ◌∙◌, ap, subst}
 use Rattle.std.specs.List.{All, list_any}
 use Rattle.std.proofs.lemmas.List.Elements.{All-rest}

@@ -1,3 +1,4 @@
+-- Answers of `select_field`: what its calls ask for, and what it promises.
 use Rattle.std.proofs.Common.{sym, ◌∙◌}
 use Rattle.link_check.proofs.Alone.{field_selected}
 use Rattle.link_check.proofs.references.running.select_field.Goals as goal

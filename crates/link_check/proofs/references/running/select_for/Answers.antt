@@ -1,3 +1,4 @@
+-- Answers of `select_for`: what its calls ask for, and what it promises.
 use Rattle.link_check.proofs.Alone.{selected_named}
 use Rattle.link_check.proofs.references.running.select_for.Goals as goal
 

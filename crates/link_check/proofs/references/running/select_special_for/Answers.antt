@@ -1,3 +1,4 @@
+-- Answers of `select_special_for`: what its calls ask for, and what it promises.
 use Rattle.std.proofs.Common.{Some}
 use Rattle.class_pool.specs.Walk.{superclasses_up}
 use Rattle.link_check.proofs.Alone.{instance_named}

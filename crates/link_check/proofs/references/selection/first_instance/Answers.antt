@@ -1,3 +1,4 @@
+-- Answers of `first_instance`: what its calls ask for, and what it promises.
 use Rattle.std.proofs.Common.{None, Some, sym, ◌∙◌}
 use Rattle.std.proofs.lemmas.List.Elements.{All-rest}
 use Rattle.class_pool.specs.Found.{is_instance_method, named_at}

@@ -1,3 +1,4 @@
+-- Answers of `first_overriding`: what its calls ask for, and what it promises.
 use Rattle.std.proofs.Common.{sym, ◌∙◌}
 use Rattle.link_check.specs.bodies.Overriding.{alike_from}
 use Rattle.link_check.proofs.OverridingLaws.{first_found, first_none}

@@ -1,3 +1,4 @@
+-- Answers of `overrides`: what its calls ask for, and what it promises.
 use Rattle.std.proofs.Common.{sym, ◌∙◌}
 use Rattle.link_check.proofs.OverridingLaws.{above_first, class_below, false_true, overridden_among, overridden_none}
 use Rattle.link_check.proofs.OverridingLaws.{own_first}

@@ -1,3 +1,4 @@
+-- Answers of `first_instance_up`: what its calls ask for, and what it promises.
 use Rattle.std.proofs.Common.{None, Some, sym, ◌∙◌}
 use Rattle.std.specs.List.{find}
 use Rattle.std.proofs.lemmas.List.Elements.{All-rest}

@@ -1,3 +1,4 @@
+-- Answers of `select_special`: what its calls ask for, and what it promises.
 use Rattle.class_pool.specs.declared.id.ClassId.TheVariants.{Prog}
 use Rattle.link_check.proofs.Meaning.{method_named}
 use Rattle.link_check.proofs.references.special.select_special.Goals as goal

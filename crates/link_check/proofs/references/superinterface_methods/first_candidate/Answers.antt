@@ -1,3 +1,4 @@
+-- Answers of `first_candidate`: what its calls ask for, and what it promises.
 use Rattle.std.proofs.Common.{◌∙◌, ap, sym}
 use Rattle.std.specs.List.{filter}
 use Rattle.std.proofs.lemmas.List.Elements.{All-rest, All-same}

@@ -1,3 +1,4 @@
+-- Answers of `is_only_candidate`: what its calls ask for, and what it promises.
 use Rattle.std.proofs.Common.{◌∙◌, ap, sym}
 use Rattle.std.specs.List.{filter, list_all}
 use Rattle.std.proofs.lemmas.List.Elements.{All-rest, All-same}

@@ -1,3 +1,4 @@
+-- Answers of `is_subinterface`: what its calls ask for, and what it promises.
 use Rattle.std.proofs.Common.{◌∙◌, ap}
 use Rattle.std.specs.List.{list_any}
 use Rattle.class_pool.specs.Walk.{same_class}

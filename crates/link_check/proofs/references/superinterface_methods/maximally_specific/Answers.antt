@@ -1,3 +1,4 @@
+-- Answers of `maximally_specific`: what its calls ask for, and what it promises.
 use Rattle.std.proofs.Common.{◌∙◌, ap, sym, cond, Some, None}
 use Rattle.class_pool.specs.Resolution.{superinterface_methods}
 use Rattle.link_check.proofs.Choosing.{none_specific, some_specific}

@@ -1,3 +1,4 @@
+-- Answers of `next_open`: what its calls ask for, and what it promises.
 use Rattle.std.proofs.Common.{◌∙◌}
 use Rattle.std.proofs.lemmas.List.Elements.{All-rest}
 use Rattle.class_pool.specs.Hierarchy.{IsClass}

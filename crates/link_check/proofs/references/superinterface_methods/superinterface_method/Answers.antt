@@ -1,3 +1,4 @@
+-- Answers of `superinterface_method`: what its calls ask for, and what it promises.
 use Rattle.std.proofs.Common.{◌∙◌, ap, sym}
 use Rattle.std.specs.Option.{option_or}
 use Rattle.class_pool.specs.Found.{IsMember}

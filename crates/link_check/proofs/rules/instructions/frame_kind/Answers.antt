@@ -1,3 +1,4 @@
+-- Answers of `frame_kind`: what its calls ask for, and what it promises.
 use Rattle.std.proofs.Common.{List, ◌++◌, ◌∙◌, ap, drop}
 use Rattle.std.specs.List.{flat_map}
 use Rattle.class_model.specs.declared.frame.VType.{VType}

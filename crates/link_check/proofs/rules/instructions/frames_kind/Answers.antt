@@ -1,3 +1,4 @@
+-- Answers of `frames_kind`: what its calls ask for, and what it promises.
 use Rattle.std.proofs.Common.{take, ◌∙◌}
 use Rattle.std.specs.List.{flat_map}
 use Rattle.link_check.specs.Profile.{frame_kinds}

@@ -1,3 +1,4 @@
+-- Answers of `lesser`: what its calls ask for, and what it promises.
 use Rattle.std.proofs.Common.{◌∙◌, sym, arith}
 use Rattle.link_check.proofs.Least.{lesser_first, lesser_none, lesser_other, lesser_second}
 use Rattle.link_check.proofs.rules.kind_order.lesser.Goals as goal

@@ -1,3 +1,4 @@
+-- Answers of `check_links`: what its calls ask for, and what it promises.
 use Rattle.std.proofs.Common.{◌∙◌, sym}
 use Rattle.link_check.proofs.FaultPlace.{first_place}
 use Rattle.link_check.proofs.rules.profile.check_links.Goals as goal

@@ -1,3 +1,4 @@
+-- Answers of `field_fault`: what its calls ask for, and what it promises.
 use Rattle.std.proofs.Common.{ℕ, ◌<◌, length, Option, Some, ◌∙◌, sym, arith}
 use Rattle.class_model.specs.declared.class.Field.{Field}
 use Rattle.link_check.specs.declared.fault.ProfileFault.{ProfileFault}

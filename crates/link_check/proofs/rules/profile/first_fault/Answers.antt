@@ -1,3 +1,4 @@
+-- Answers of `first_fault`: what its calls ask for, and what it promises.
 use Rattle.std.proofs.Common.{ℕ, ◌+◌, ◌<◌, length, Option, ◌∙◌, ap, sym, arith}
 use Rattle.std.specs.List.{enumerate_from}
 use Rattle.std.specs.Option.{option_or}

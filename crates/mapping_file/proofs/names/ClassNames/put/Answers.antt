@@ -1,3 +1,4 @@
+-- Answers of `ClassNames::put`: what its calls ask for, and what it promises.
 use Rattle.mapping_file.specs.MapReading.{empty_class}
 use Rattle.mapping_file.proofs.NamesTold.{both_put}
 use Rattle.mapping_file.proofs.names.ClassNames.put.Goals as goal

@@ -1,3 +1,4 @@
+-- Answers of `MarkTable::claim`: what its calls ask for, and what it promises.
 use Rattle.std.proofs.Common.{◌<◌, ◌+◌, ◌*◌, ◌/◌, arith, subst, sym, refl, ◌∙◌}
 use Rattle.mark_machine.specs.declared.machine.View.{View}
 use Rattle.mark_machine.specs.declared.machine.Event.TheVariants.{Claim}

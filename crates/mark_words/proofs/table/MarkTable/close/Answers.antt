@@ -1,3 +1,4 @@
+-- Answers of `MarkTable::close`: what its calls ask for, and what it promises.
 use Rattle.std.proofs.Common.{◌≡◌, ◌<◌, ℕ, ◌∙◌, sym, subst, get_or, List}
 use Rattle.mark_core.specs.Marks.{Marks}
 use Rattle.mark_words.specs.Seats.{system_of}

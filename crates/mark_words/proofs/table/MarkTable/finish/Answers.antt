@@ -1,3 +1,4 @@
+-- Answers of `MarkTable::finish`: what its calls ask for, and what it promises.
 use Rattle.std.proofs.Common.{rules}
 use Rattle.mark_words.proofs.Steps.{finishes_item}
 use Rattle.mark_words.proofs.table.MarkTable.finish.Goals as goal

@@ -1,3 +1,4 @@
+-- Answers of `MarkTable::give_back`: what its calls ask for, and what it promises.
 use Rattle.std.proofs.Common.{rules}
 use Rattle.mark_words.proofs.Steps.{gives_back}
 use Rattle.mark_words.proofs.table.MarkTable.give_back.Goals as goal

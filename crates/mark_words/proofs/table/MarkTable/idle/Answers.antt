@@ -1,3 +1,4 @@
+-- Answers of `MarkTable::idle`: what its calls ask for, and what it promises.
 use Rattle.std.proofs.Common.{rules}
 use Rattle.mark_words.proofs.Steps.{sees_idle}
 use Rattle.mark_words.proofs.table.MarkTable.idle.Goals as goal

@@ -1,3 +1,4 @@
+-- Answers of `MarkTable::is_marked`: what its calls ask for, and what it promises.
 use Rattle.std.proofs.Common.{◌<◌, ◌+◌, ◌*◌, ◌/◌, arith}
 use Rattle.mark_words.specs.Words.{word_count}
 use Rattle.mark_words.proofs.Bits.{word_within}

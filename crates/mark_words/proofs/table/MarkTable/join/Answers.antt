@@ -1,3 +1,4 @@
+-- Answers of `MarkTable::join`: what its calls ask for, and what it promises.
 use Rattle.std.proofs.Common.{arith}
 use Rattle.mark_words.proofs.Seating.{joins}
 use Rattle.mark_words.proofs.table.MarkTable.join.Goals as goal

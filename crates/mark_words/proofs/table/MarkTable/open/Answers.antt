@@ -1,3 +1,4 @@
+-- Answers of `MarkTable::open`: what its calls ask for, and what it promises.
 use Rattle.std.proofs.Common.{◌<◌, ◌≡◌, ◌+◌, ◌*◌, ◌/◌, ℕ, [], subst, sym, ap, ◌∙◌, List, replicate}
 use Rattle.std.proofs.Common.{set, ◌∷◌}
 use Rattle.atomic_table.specs.Table.{opening}

@@ -1,3 +1,4 @@
+-- Answers of `MarkTable::reserve`: what its calls ask for, and what it promises.
 use Rattle.std.proofs.Common.{rules}
 use Rattle.mark_words.proofs.Steps.{reserves}
 use Rattle.mark_words.proofs.table.MarkTable.reserve.Goals as goal

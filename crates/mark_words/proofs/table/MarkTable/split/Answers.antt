@@ -1,3 +1,4 @@
+-- Answers of `MarkTable::split`: what its calls ask for, and what it promises.
 use Rattle.std.proofs.Common.{arith}
 use Rattle.mark_words.proofs.Seating.{splits}
 use Rattle.mark_words.proofs.table.MarkTable.split.Goals as goal

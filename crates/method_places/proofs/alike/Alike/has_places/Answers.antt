@@ -1,3 +1,4 @@
+-- Answers of `Alike::has_places`: what its calls ask for, and what it promises.
 use Rattle.std.proofs.Common.{◌-◌, ◌∙◌, ◌<◌, arith, length, sym}
 use Rattle.std.proofs.lemmas.Bool.{eqb-true}
 use Rattle.std.proofs.lemmas.List.{get_or_default}

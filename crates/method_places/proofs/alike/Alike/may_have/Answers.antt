@@ -1,3 +1,4 @@
+-- Answers of `Alike::may_have`: what its calls ask for, and what it promises.
 use Rattle.std.proofs.Common.{arith, refl}
 use Rattle.method_places.proofs.Having.{none_has}
 use Rattle.method_places.proofs.alike.Alike.may_have.Goals as goal

@@ -1,3 +1,4 @@
+-- Answers of `Places::of`: what its calls ask for, and what it promises.
 use Rattle.std.proofs.Common.{◌∙◌, map}
 use Rattle.std.specs.List.{filter_map}
 use Rattle.method_places.specs.bodies.Places.{part_row}

@@ -1,3 +1,4 @@
+-- Answers of `Receiver::known`: what its calls ask for, and what it promises.
 use Rattle.std.proofs.Common.{◌≡◌, ◌<◌, ◌∙◌, ℕ, arith, refl, subst, sym, true}
 use Rattle.class_pool.specs.Resolution.{is_class_below}
 use Rattle.class_pool.specs.Walk.{superclasses_from}

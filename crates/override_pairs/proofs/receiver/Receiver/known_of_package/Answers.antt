@@ -1,23 +1,20 @@
-use Rattle.std.proofs.Common.{◌≡◌, ◌∙◌, ℕ, false, Option, None, Some, arith, refl, subst, sym, true}
+-- Answers of `Receiver::known_of_package`: what its calls ask for, and what it promises.
+use Rattle.std.proofs.Common.{◌≡◌, ◌∙◌, ℕ, Some, arith, refl, subst, sym, true}
 use Rattle.std.specs.Prelude.{IfSome}
-use Rattle.std.specs.Option.{is_some}
 use Rattle.class_pool.specs.Resolution.{is_class_below}
 use Rattle.class_pool.specs.Selection.{selected}
 use Rattle.class_pool.specs.Walk.{superclasses_from}
 use Rattle.class_pool.specs.declared.id.ClassId.TheVariants.{Prog}
 use Rattle.method_places.specs.bodies.Alike.{HasItem, member_at}
-use Rattle.method_places.specs.declared.methods.InstanceMethod.{InstanceMethod}
 use Rattle.method_places.proofs.InstanceRows.{listed_row}
 use Rattle.item_numbers.proofs.Meeting.{chain_there}
+use Rattle.override_pairs.proofs.FreeRuns.{firsts, seconds}
 use Rattle.override_pairs.proofs.PackageRuns.{noted_runs}
 use Rattle.override_pairs.proofs.receiver.Receiver.known_of_package.Goals as goal
+use Rattle.override_pairs.proofs.receiver.Receiver.known_of_package.Goals.{After-noted}
 
-nothing : (o : Option InstanceMethod) → false ≡ is_some o → o ≡ None
-nothing None h = refl
-nothing (Some x) h = absurd cc
-
-runs : (c : goal.After-noted-2)
-    → IfSome c.noted-2.result (λ found. (selected c.args.self.now.numbered.now.set.now (Prog c.args.self.now.class)
+runs : (c : After-noted)
+    → IfSome c.noted.result (λ found. (selected c.args.self.now.numbered.now.set.now (Prog c.args.self.now.class)
     (member_at c.args.row.now) ≡ Some (member_at found)) × HasItem c.args.self.now.numbered.now.set.now found)
 runs c =
     let self = c.args.self.now in
@@ -30,28 +27,18 @@ runs c =
     let above = subst (λ (k : ℕ). is_class_below set (Prog self.class) (Prog k) ≡ true) (sym class)
     c.requires.is_above in
     noted_runs set self.table.now given.rows self.places.now given.places self.class
-    (chain_there set self.class chain given.there refl) row c.args.above is c.requires.number c.requires.kind above
-    c.place-place.result (sym c.place-place.ensures) (omega (arith, c.if-place-eq0.false)) self.stamp self.placed.now
-    self.opening.now given.placed given.opening (omega (arith, c.if-place-self.false))
-    (sym c.noted.ensures ∙ nothing c.noted.result (sym c.if-is_some.false ∙ c.is_some.ensures)) c.noted-2.result
-    (sym c.noted-2.ensures)
+    (chain_there set self.class chain given.there refl) row c.args.above is c.requires.number c.requires.kind
+    c.place-place.result (sym c.place-place.ensures) (omega (arith, c.if-place-eq0.false)) self.stamp above
+    self.placed.now given.placed (c.in_ok-is_opened.ensures ∙ c.if-branch.false) c.noted.result (sym c.noted.ensures)
 
-firsts : (P Q : InstanceMethod → Type 0) (o : Option InstanceMethod) → IfSome o (λ x. P x × Q x) → IfSome o P
-firsts P Q None h = h
-firsts P Q (Some x) h = h.0
-
-seconds : (P Q : InstanceMethod → Type 0) (o : Option InstanceMethod) → IfSome o (λ x. P x × Q x) → IfSome o Q
-seconds P Q None h = h
-seconds P Q (Some x) h = h.1
-
-pub returns-clause-is : goal.returns-clause-is
-returns-clause-is c =
+pub returns-else-branch-clause-is : goal.returns-else-branch-clause-is
+returns-else-branch-clause-is c =
     firsts
     (λ found. selected c.args.self.now.numbered.now.set.now (Prog c.args.self.now.class) (member_at c.args.row.now)
-    ≡ Some (member_at found)) (HasItem c.args.self.now.numbered.now.set.now) c.noted-2.result (runs c)
+    ≡ Some (member_at found)) (HasItem c.args.self.now.numbered.now.set.now) c.noted.result (runs c)
 
-pub returns-clause-item : goal.returns-clause-item
-returns-clause-item c =
+pub returns-else-branch-clause-item : goal.returns-else-branch-clause-item
+returns-else-branch-clause-item c =
     seconds
     (λ found. selected c.args.self.now.numbered.now.set.now (Prog c.args.self.now.class) (member_at c.args.row.now)
-    ≡ Some (member_at found)) (HasItem c.args.self.now.numbered.now.set.now) c.noted-2.result (runs c)
+    ≡ Some (member_at found)) (HasItem c.args.self.now.numbered.now.set.now) c.noted.result (runs c)

@@ -1,3 +1,4 @@
+-- Answers of `Receiver::selected`: what its calls ask for, and what it promises.
 use Rattle.std.proofs.Common.{◌∙◌, sym, subst, ap}
 use Rattle.class_pool.specs.Found.{IsMember, IsMethod}
 use Rattle.class_pool.specs.Selection.{selected}

@@ -1,3 +1,4 @@
+-- Answers of `SeenMembers::put`: what its calls ask for, and what it promises.
 use Rattle.new_names.specs.NewNames.{is_same}
 use Rattle.new_names.proofs.Inserted.{same_Decides}
 use Rattle.pair_clauses.proofs.SeenLaw.{is_new_among, seen_more}

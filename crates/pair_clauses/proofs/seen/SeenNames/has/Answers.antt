@@ -1,3 +1,4 @@
+-- Answers of `SeenNames::has`: what its calls ask for, and what it promises.
 use Rattle.std.proofs.Common.{◌∙◌}
 use Rattle.pair_clauses.proofs.seen.SeenNames.has.Goals as goal
 

@@ -1,3 +1,4 @@
+-- Answers of `SeenNames::put`: what its calls ask for, and what it promises.
 use Rattle.jv_base.specs.Names.{is_text}
 use Rattle.jv_base.proofs.Equality.{text_Decides}
 use Rattle.pair_clauses.proofs.SeenLaw.{is_new_among, seen_more}

@@ -1,3 +1,4 @@
+-- Answers of `Entries::entry`: what its calls ask for, and what it promises.
 use Rattle.std.proofs.Common.{◌∙◌, ap}
 use Rattle.std.specs.Borrow.{Bor}
 use Rattle.std.specs.List.{find}

@@ -1,3 +1,4 @@
+-- Answers of `OldMethods::candidates`: what its calls ask for, and what it promises.
 use Rattle.std.proofs.Common.{◌≡◌, ◌+◌, ◌-◌, ◌<◌, ℕ, List, length, map, slice_get, Some, refl, sym, ap}
 use Rattle.std.proofs.Common.{subst, ◌∙◌, arith}
 use Rattle.std.proofs.lemmas.List.{map-append}

@@ -1,3 +1,4 @@
+-- Answers of `OldMethods::of`: what its calls ask for, and what it promises.
 use Rattle.std.proofs.Common.{◌≡◌, ◌+◌, ◌-◌, ◌<◌, ℕ, List, length, refl, sym, subst, arith}
 use Rattle.std.proofs.lemmas.Option.{slice_get_read}
 use Rattle.retrace_core.specs.bodies.Linked.{AreLinked}

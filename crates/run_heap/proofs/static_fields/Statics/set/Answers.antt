@@ -1,3 +1,4 @@
+-- Answers of `Statics::set`: what its calls ask for, and what it promises.
 use Rattle.std.proofs.Common.{◌∙◌, ap, map, List}
 use Rattle.jvm_model.specs.Value.{Key, Value, set_key}
 use Rattle.run_heap.specs.Held.{held, held_at, key_of}

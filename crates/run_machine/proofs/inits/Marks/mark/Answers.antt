@@ -1,3 +1,4 @@
+-- Answers of `Marks::mark`: what its calls ask for, and what it promises.
 use Rattle.std.proofs.Common.{◌∙◌, ℕ, List, ap}
 use Rattle.jvm_model.specs.Value.{set_class}
 use Rattle.run_machine.specs.Inits.{init_at, init_of}

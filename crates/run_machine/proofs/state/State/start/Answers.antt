@@ -1,3 +1,4 @@
+-- Answers of `State::start`: what its calls ask for, and what it promises.
 use Rattle.std.proofs.Common.{◌∙◌, List, ◌∷◌, ap, map}
 use Rattle.run_heap.specs.Worlds.{object_of}
 use Rattle.run_machine.specs.declared.state.Wait.{Wait}

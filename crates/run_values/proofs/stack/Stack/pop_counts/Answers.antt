@@ -1,3 +1,4 @@
+-- Answers of `Stack::pop_counts`: what its calls ask for, and what it promises.
 use Rattle.std.proofs.Common.{rules, arith, ◌∙◌, ap, sym, ◌-◌, ◌+◌, [], ◌∷◌, ℤ, List, reverse}
 use Rattle.std.proofs.lemmas.Int.{to_z-of_z}
 use mir.Syntax.{w32}

@@ -1,3 +1,4 @@
+-- Answers of `Known::argument_types`: what its calls ask for, and what it promises.
 use Rattle.std.proofs.Common.{◌≡◌, ℕ, List, Option, Some, None, Bor, sym, ap, ◌∙◌, rules}
 use Rattle.text_lines.specs.Cut.{cut, parts_copied}
 use Rattle.text_lines.proofs.Arguments.{goes_on, stops, ends, ends_not, shorter, arguments_is}

@@ -1,3 +1,4 @@
+-- Answers of `Known::field_type`: what its calls ask for, and what it promises.
 use Rattle.std.proofs.Common.{Option, sym, ap, ◌∙◌}
 use Rattle.jv_base.specs.declared.types.FieldType.{FieldType}
 use Rattle.std.proofs.Common.{Some}

@@ -1,3 +1,4 @@
+-- Answers of `MemoryTreeTree::list`: what its calls ask for, and what it promises.
 use Rattle.std.proofs.Common.{rules}
 use Rattle.tree_io.proofs.MemoryRuns.{listed_tells}
 use Rattle.tree_io.proofs.memory_tree.MemoryTreeTree.list.Goals as goal

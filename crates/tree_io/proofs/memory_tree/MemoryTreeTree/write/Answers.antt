@@ -1,3 +1,4 @@
+-- Answers of `MemoryTreeTree::write`: what its calls ask for, and what it promises.
 use Rattle.std.proofs.Common.{rules}
 use Rattle.tree_io.proofs.MemoryRuns.{wrote_tells}
 use Rattle.tree_io.proofs.memory_tree.MemoryTreeTree.write.Goals as goal

@@ -1,3 +1,4 @@
+-- Answers of `CodeChecker::check`: what its calls ask for, and what it promises.
 use Rattle.std.proofs.Common.{List, Ok, subst}
 use Rattle.jv_base.specs.Outcome.{IsDue}
 use Rattle.class_model.specs.declared.class.Class.{Class}

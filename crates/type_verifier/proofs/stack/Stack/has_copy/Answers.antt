@@ -1,3 +1,4 @@
+-- Answers of `Stack::has_copy`: what its calls ask for, and what it promises.
 use Rattle.std.proofs.Common.{List, sym, ap, ◌∙◌}
 use Rattle.std.specs.List.{list_any}
 use Rattle.class_model.specs.declared.frame.VType.{VType}

@@ -1,3 +1,4 @@
+-- Answers of `Stack::substitute`: what its calls ask for, and what it promises.
 use Rattle.std.proofs.Common.{List, reverse, sym, ap, ◌∙◌}
 use Rattle.class_model.specs.declared.frame.VType.{VType}
 use Rattle.std.specs.Prelude.{if◌then◌else◌}

@@ -1,3 +1,4 @@
+-- Answers of `Stack::words`: what its calls ask for, and what it promises.
 use Rattle.std.proofs.Common.{sym, ap, ◌∙◌}
 use Rattle.class_model.specs.Frames.{words_of_type, words_of_types}
 use Rattle.type_verifier.proofs.Lists.{sum_reversed}

@@ -1,3 +1,4 @@
+-- Answers of `Met::meet`: what its calls ask for, and what it promises.
 use Rattle.std.proofs.Common.{rules, ◌≡◌, ◌∙◌, ◌++◌, [], ◌∷◌, length, sym, subst}
 use Rattle.class_pool.specs.bodies.Marked.{Classes, IsBelow}
 use Rattle.class_pool.specs.Walk.{each_once}

@@ -1,3 +1,4 @@
+-- Answers of `SharedLists::new`: what its calls ask for, and what it promises.
 use Rattle.std.proofs.Common.{rules}
 use Rattle.class_pool.proofs.Sharing.{none_all}
 use Rattle.class_pool.proofs.hierarchy.shared_lists.SharedLists.new.Goals as goal

@@ -1,3 +1,4 @@
+-- Answers of `SharedLists::put`: what its calls ask for, and what it promises.
 use Rattle.std.proofs.Common.{rules}
 use Rattle.class_pool.proofs.Sharing.{last_put}
 use Rattle.class_pool.proofs.hierarchy.shared_lists.SharedLists.put.Goals as goal

@@ -1,3 +1,4 @@
+-- Answers of `SharedLists::put_before`: what its calls ask for, and what it promises.
 use Rattle.std.proofs.Common.{rules}
 use Rattle.class_pool.proofs.Sharing.{put_before_is}
 use Rattle.class_pool.proofs.hierarchy.shared_lists.SharedLists.put_before.Goals as goal

@@ -1,3 +1,4 @@
+-- Answers of `ClassesByName::len`: what its calls ask for, and what it promises.
 use Rattle.std.proofs.Common.{arith}
 use Rattle.class_pool.proofs.Counting.{classes_counted}
 use Rattle.class_pool.proofs.set.lookup.ClassesByName.len.Goals as goal

@@ -1,3 +1,4 @@
+-- Answers of `ClassesByName::number_of`: what its calls ask for, and what it promises.
 use Rattle.std.proofs.Common.{◌∙◌, length, ◌<◌, sym, ap, arith}
 use Rattle.std.specs.List.{position}
 use Rattle.jv_base.specs.Names.{is_text}

@@ -1,3 +1,4 @@
+-- Answers of `MemberIndex::find`: what its calls ask for, and what it promises.
 use Rattle.std.proofs.Common.{◌∙◌, ◌+◌, length, subst, sym}
 use Rattle.std.specs.List.Sorted.{IsSorted}
 use Rattle.class_pool.specs.bodies.ByName.{HasKeys, key_cmp}

@@ -1,3 +1,4 @@
+-- Answers of `MemberIndex::of`: what its calls ask for, and what it promises.
 use Rattle.std.proofs.Common.{◌+◌, length}
 use Rattle.class_pool.proofs.Sorting.{moved_keys}
 use Rattle.class_pool.proofs.set.members.MemberIndex.of.Goals as goal

@@ -1,3 +1,4 @@
+-- Answers of `SuperinterfaceMethods::of`: what its calls ask for, and what it promises.
 use Rattle.std.proofs.Common.{ap}
 use Rattle.std.proofs.lemmas.List.Elements.{All-same}
 use Rattle.class_pool.specs.Found.{IsMember}

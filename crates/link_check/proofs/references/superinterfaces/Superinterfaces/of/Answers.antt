@@ -1,3 +1,4 @@
+-- Answers of `Superinterfaces::of`: what its calls ask for, and what it promises.
 use Rattle.link_check.proofs.Interfaces.{superinterfaces_there}
 use Rattle.link_check.proofs.references.superinterfaces.Superinterfaces.of.Goals as goal
 

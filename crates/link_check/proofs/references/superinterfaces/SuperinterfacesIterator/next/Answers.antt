@@ -1,3 +1,4 @@
+-- Answers of `SuperinterfacesIterator::next`: what its calls ask for, and what it promises.
 use Rattle.std.proofs.lemmas.List.Elements.{All-rest}
 use Rattle.class_pool.specs.Hierarchy.{IsClass}
 use Rattle.link_check.proofs.references.superinterfaces.SuperinterfacesIterator.next.Goals as goal
