@@ -26,3 +26,4 @@ pub mod Declaring
 pub mod Distinct
 pub mod Among
 pub mod Climbing
+pub mod Noted

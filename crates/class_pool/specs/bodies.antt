@@ -12,3 +12,4 @@ pub mod Tables
 pub mod Cycles
 pub mod Faults
 pub mod Supers
+pub mod Notes

@@ -1,6 +1,7 @@
 //! The hierarchy of a set of class files: which classes there are, and their supertypes up into the library.
 #![tactic(auto)]
 
+mod alike;
 mod fault;
 mod hierarchy;
 mod id;
@@ -10,6 +11,7 @@ mod rows;
 mod set;
 mod upwards;
 
+pub use alike::AlikeMethods;
 pub use fault::{NamedClass, PoolFault, PoolKind};
 pub use hierarchy::building::build;
 pub use id::{ClassId, MemberAt};

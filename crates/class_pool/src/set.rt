@@ -9,12 +9,14 @@ ghost use Rattle.class_pool.specs.bodies.Supers.{is_self_or_own};
 ghost use Rattle.class_pool.specs.Supertypes.{NoCycle, Sub};
 ghost use Rattle.class_pool.specs.Walk.{each_once, own_superinterfaces, supers};
 
+pub mod declaring;
 pub mod descriptors;
 pub mod found;
 pub mod kind;
 pub mod lookup;
 pub mod members;
 pub mod method_like;
+pub mod notes;
 pub mod order;
 pub mod package;
 
@@ -25,6 +27,7 @@ use crate::hierarchy::supers::supers_of;
 use crate::id::{has_class, is_same_class};
 use crate::set::lookup::ClassesByName;
 use crate::set::members::MemberIndex;
+use crate::set::notes::MemberNotes;
 use crate::upwards::{Superclasses, superclasses_of};
 use class_model::Class;
 use jv_base::{Items, M, Name, Text};
@@ -46,6 +49,8 @@ pub struct ClassSet {
     pub(crate) object: Option<ClassId>,
     /// For each class its superclass.
     pub(crate) superclasses: Items<Option<ClassId>>,
+    /// From which class on upwards members are to be looked for.
+    pub(crate) notes: MemberNotes,
 }
 
 impl Model for ClassSet {
@@ -57,6 +62,7 @@ impl Model for ClassSet {
     ghost use Rattle.class_pool.specs.bodies.Graph.{library_ids};
     ghost use Rattle.class_pool.specs.Hierarchy.{class_named, superclass_of};
     ghost use Rattle.class_pool.specs.bodies.Lists.{AreOwn};
+    ghost use Rattle.class_pool.specs.bodies.Notes.{IsNoted};
     ghost use Rattle.class_pool.specs.Ranks.{HasObject, HasRanks};
     ghost use Rattle.class_pool.specs.Supertypes.{NoCycle};
 
@@ -67,7 +73,7 @@ impl Model for ClassSet {
     ghost invariant = { λ s. (s.library ≡ library_ids) × HasRanks s.classes × AllZip IsIndexOf s.classes s.members
         × NoCycle s.classes × AreOwn s.classes s.superinterfaces × (s.descriptors ≡ map method_texts s.classes)
         × (s.object ≡ class_named s.classes (codes "java/lang/Object")) × HasObject s.classes
-        × (s.superclasses ≡ map (superclass_of s.classes) s.classes) };
+        × (s.superclasses ≡ map (superclass_of s.classes) s.classes) × IsNoted s.superclasses s.members s.notes };
 }
 
 impl ClassSet {

@@ -3,11 +3,12 @@ use Rattle.std.proofs.Common.{◌≡◌, ℕ, zero, suc, ◌+◌, ◌<◌, Bool,
 use Rattle.std.proofs.Common.{length, map, get_or, replicate, Option, Some, None, ⊎_elim, refl, sym, ap, subst, ◌∙◌}
 use Rattle.std.proofs.Common.{arith}
 use Rattle.std.specs.Bool.{beq}
-use Rattle.std.specs.List.{enumerate_from, find, list_all, position}
+use Rattle.std.specs.List.{All, cons_option, enumerate_from, find, list_all, position}
 use Rattle.std.specs.Option.{option_and_then, option_map, option_map_or}
 use Rattle.std.specs.Prelude.{slice_get}
 use Rattle.std.proofs.lemmas.Bool.{and_from, and_parts, cases_lt}
 use Rattle.std.proofs.lemmas.List.{get_or_past}
+use Rattle.std.proofs.lemmas.List.Elements.{All-cons, All-nil}
 use Rattle.std.proofs.lemmas.List.Quantifiers.{position-Some}
 use Rattle.std.proofs.lemmas.Option.{same_Some}
 use Rattle.jv_base.specs.Names.{is_text}
@@ -29,7 +30,8 @@ use Rattle.lib_table.proofs.Classes.{holds_at}
 use Rattle.class_pool.specs.declared.id.ClassId.{ClassId}
 use Rattle.class_pool.specs.declared.id.ClassId.TheVariants.{Prog, Lib}
 use Rattle.class_pool.specs.declared.id.MemberAt.{MemberAt}
-use Rattle.class_pool.specs.Found.{is_method_at, MemberRow, declared_in, field_row, library_row, method_row, named_at}
+use Rattle.class_pool.specs.Found.{IsMethod, MemberRow, declared_by, declared_in, field_row, is_method_at, library_row}
+use Rattle.class_pool.specs.Found.{method_row, named_at}
 use Rattle.class_pool.specs.Found.{row_at}
 use Rattle.class_pool.specs.Found.{rows_in}
 use Rattle.class_pool.specs.Members.{declared_at, is_field, is_method, member_named, or_method}
@@ -268,3 +270,17 @@ like_is_method classes m a c method at =
     by_number classes c (declared_at classes c (named_at classes m).0 (named_at classes m).1) a at
     (λ n here. declares_method classes c (named_at classes m).0 (named_at classes m).1 n
     (method_opens classes m method) here)
+
+-- so are all that classes declare so
+pub likes_are_methods : (classes : List Class) (m : MemberAt) (cs : List ClassId) → is_method_at classes m ≡ true
+    → All (IsMethod classes) (declared_by classes (named_at classes m) cs)
+likes_are_methods classes m [] method = All-nil (IsMethod classes)
+likes_are_methods classes m (c ∷ cs) method =
+    by (declared_in classes (named_at classes m) c) refl (likes_are_methods classes m cs method)
+  where
+    by : (o : Option MemberAt) → declared_in classes (named_at classes m) c ≡ o
+        → All (IsMethod classes) (declared_by classes (named_at classes m) cs)
+        → All (IsMethod classes) (cons_option o (declared_by classes (named_at classes m) cs))
+    by None at others = others
+    by (Some a) at others = All-cons (IsMethod classes) a (declared_by classes (named_at classes m) cs)
+        (like_is_method classes m a c method at) others

@@ -4,38 +4,37 @@ use Rattle.std.specs.List.{cons_option, filter_map, flat_map}
 use Rattle.std.specs.Option.{option_map_or}
 use Rattle.std.proofs.lemmas.List.{append-nil, append_assoc}
 use Rattle.std.proofs.lemmas.List.Concat.{flat_map-append}
-use Rattle.class_pool.specs.declared.id.ClassId.{ClassId}
 use Rattle.link_check.specs.declared.fault.ProfileKind.{ProfileKind}
 use Rattle.link_check.specs.Profile.{least}
 use Rattle.link_check.proofs.Least.{is_none}
 
 -- the least of the kinds of the classes of the whole walk that come before the rest
-pub record Gathered (f : ClassId → List ProfileKind) (whole rest : List ClassId)
+pub record Gathered {X : Type 0} (f : X → List ProfileKind) (whole rest : List X)
     (kind : Option ProfileKind) : Type 0 where
   pub kinds : List ProfileKind
   pub are : kind ≡ least kinds
   pub all : kinds ++ flat_map f rest ≡ flat_map f whole
 
-pub gathered_none : (f : ClassId → List ProfileKind) (whole rest : List ClassId) → rest ≡ whole
+pub gathered_none : {X : Type 0} (f : X → List ProfileKind) (whole rest : List X) → rest ≡ whole
     → Gathered f whole rest None
 gathered_none f whole rest is = record { kinds = []; are = is_none; all = ap (flat_map f) is }
 
-pub gathered_more : (f : ClassId → List ProfileKind) (whole old new : List ClassId) (c : ClassId)
+pub gathered_more : {X : Type 0} (f : X → List ProfileKind) (whole old new : List X) (c : X)
     (kind one next : Option ProfileKind)
     → old ≡ c ∷ new → Gathered f whole old kind → one ≡ least (f c)
     → ((a b : List ProfileKind) → kind ≡ least a → one ≡ least b → next ≡ least (a ++ b)) → Gathered f whole new next
 gathered_more f whole old new c kind one next is g here joined = record {
   kinds = g.kinds ++ f c;
   are = joined g.kinds (f c) g.are here;
-  all = append_assoc g.kinds (f c) (flat_map f new) ∙ ap (λ (cs : List ClassId). g.kinds ++ flat_map f cs) (sym is)
+  all = append_assoc g.kinds (f c) (flat_map f new) ∙ ap (λ cs. g.kinds ++ flat_map f cs) (sym is)
       ∙ g.all;
 }
 
-pub gathered_all : (f : ClassId → List ProfileKind) (whole rest : List ClassId) (kind : Option ProfileKind)
+pub gathered_all : {X : Type 0} (f : X → List ProfileKind) (whole rest : List X) (kind : Option ProfileKind)
     → Gathered f whole rest kind
     → rest ≡ [] → kind ≡ least (flat_map f whole)
 gathered_all f whole rest kind g over =
-    g.are ∙ ap least (sym (append-nil g.kinds) ∙ ap (λ (cs : List ClassId). g.kinds ++ flat_map f cs) (sym over)
+    g.are ∙ ap least (sym (append-nil g.kinds) ∙ ap (λ cs. g.kinds ++ flat_map f cs) (sym over)
     ∙ g.all)
 
 -- ---- lists of lists

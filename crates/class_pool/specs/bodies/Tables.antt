@@ -10,6 +10,7 @@ use Rattle.class_pool.specs.bodies.Descriptors.{method_texts}
 use Rattle.class_pool.specs.bodies.Graph.{library_ids}
 use Rattle.class_pool.specs.Hierarchy.{class_named, superclass_of}
 use Rattle.class_pool.specs.bodies.Lists.{AreOwn}
+use Rattle.class_pool.specs.bodies.Notes.{IsNoted}
 
 -- the library, and the superinterfaces that each class has itself
 pub record IsAbove (classes : List Class) (above : Above) : Type 0 where
@@ -26,4 +27,5 @@ pub record AreTables (classes : List Class) (tables : Tables) : Type 0 where
   pub above : IsAbove classes tables.above
   pub superclasses : tables.superclasses ≡ map (superclass_of classes) classes
   pub members : AreMembers classes tables.members
+  pub notes : IsNoted tables.superclasses tables.members.indexes tables.notes
   pub object : tables.object ≡ class_named classes (codes "java/lang/Object")

@@ -22,6 +22,7 @@ use crate::hierarchy::superinterfaces::superinterfaces_of;
 use crate::set::descriptors::descriptors_of;
 use crate::set::lookup::ClassesByName;
 use crate::set::members::MemberIndex;
+use crate::set::notes::MemberNotes;
 use crate::set::order::order_of;
 use crate::{ClassId, ClassSet, NamedClass, PoolFault};
 use class_model::Class;
@@ -86,6 +87,7 @@ struct Tables {
     superclasses: Items<Option<ClassId>>,
     members: MemberTables,
     object: Option<ClassId>,
+    notes: MemberNotes,
 }
 
 /// The supertypes of classes, those of the library first.
@@ -122,6 +124,7 @@ fn joined(classes: ClassesByName, tables: Tables) -> ClassSet
         superclasses,
         members,
         object,
+        notes,
     } = tables;
     let Above {
         library,
@@ -139,6 +142,7 @@ fn joined(classes: ClassesByName, tables: Tables) -> ClassSet
         superinterfaces,
         object,
         superclasses,
+        notes,
     }
 }
 
@@ -150,11 +154,13 @@ fn tables_of(alloc: Global, classes: &ClassesByName) -> M<Tables>
     let above = above_of(alloc, classes)?;
     let superclasses = superclasses_of(alloc, classes)?;
     let members = member_tables(alloc, classes)?;
+    let notes = MemberNotes::of(alloc, &superclasses, &members.indexes)?;
     Ok(Tables {
         above,
         superclasses,
         members,
         object,
+        notes,
     })
 }
 

@@ -11,13 +11,13 @@ use std::alloc::Global;
 use std::cmp::Ordering;
 
 /// The name, the descriptor and the number of a member. The fields are numbered first, then the methods.
-type Key = (Name, (Text, u32));
+pub(crate) type Key = (Name, (Text, u32));
 
 /// The members of a class in the order of their names, then of their descriptors, then of their numbers, so that no
 /// choice of names makes a look-up slow.
 #[derive(Drop)]
 pub(crate) struct MemberIndex {
-    keys: Vec<Key>,
+    pub(crate) keys: Vec<Key>,
 }
 
 impl MemberIndex {
@@ -43,7 +43,7 @@ impl MemberIndex {
 }
 
 /// The number of the key at a place, where it has the name and the descriptor.
-fn number_at(keys: &[Key], place: usize, name: &Name, ty: &Text) -> Option<u32>
+pub(crate) fn number_at(keys: &[Key], place: usize, name: &Name, ty: &Text) -> Option<u32>
     ensures { result ≡ number_at keys.now place name.now ty.now }
 {
     let key = keys.get(place)?;
@@ -85,7 +85,7 @@ fn key_of(alloc: Global, class: &Class, texts: &Items<Text>, number: u32) -> M<K
 }
 
 /// The place of the first key that doesn't stand before those of a name and a descriptor.
-fn place_of(keys: &[Key], name: &Name, ty: &Text) -> usize
+pub(crate) fn place_of(keys: &[Key], name: &Name, ty: &Text) -> usize
     requires { IsSorted key_cmp keys.now }
     ensures { IsPlace keys.now name.now ty.now result result }
 {

@@ -1,10 +1,8 @@
 // The methods that a method overrides (JVMS 5.4.5).
 #![tactic(auto, using(crate::proofs::Least::is_none))]
 
-ghost use Rattle.std.specs.Prelude.{◌≡◌, ◌<◌, ◌&&◌, [], length, not};
-ghost use Rattle.std.specs.Option.{option_map_or};
-ghost use Rattle.class_pool.specs.Found.{IsMethod, IsMember, declared_in, is_final_member, named_at, role_at};
-ghost use Rattle.class_pool.specs.Hierarchy.{IsClass};
+ghost use Rattle.std.specs.Prelude.{◌≡◌, ◌<◌, ◌&&◌, length, not};
+ghost use Rattle.class_pool.specs.Found.{IsMethod, IsMember, is_final_member, role_at};
 ghost use Rattle.class_pool.specs.Selection.{overrides};
 ghost use Rattle.class_pool.specs.Walk.{same_class};
 ghost use Rattle.class_pool.specs.declared.id.ClassId.TheVariants.{Prog};
@@ -17,7 +15,7 @@ use crate::overriding::inherited::{Known, start_in};
 use crate::references::selection::overrides;
 use crate::rules::kind_order::{lesser, unless};
 use crate::rules::member_uses::is_same_class;
-use class_pool::{ClassId, ClassSet, MemberAt, Superclasses};
+use class_pool::{AlikeMethods, ClassSet, MemberAt};
 use lib_table::Role;
 
 /// What is wrong with the methods that a method of the class with a number overrides. Superclasses are looked at from
@@ -36,25 +34,11 @@ pub(crate) fn overriding_kind(
     ensures { result ≡ least (overriding_kinds set.now number m.now) }
 {
     let mut kind = None;
-    for class in Superclasses::up(set, start_in(known, number)) {
-        let class = &class;
-        kind = lesser(kind, like_kind(set, m, class));
+    for above in AlikeMethods::up(set, start_in(known, number), *m) {
+        let above = &above;
+        kind = lesser(kind, overridden_kind(set, m, above));
     }
     kind
-}
-
-/// The same of the method that a class declares with its name and its descriptor.
-fn like_kind(set: &ClassSet, m: &MemberAt, class: &ClassId) -> Option<ProfileKind>
-    requires member { IsMember set.now m.now }
-    requires method { IsMethod set.now m.now }
-    requires class { IsClass set.now class.now }
-    ensures { result ≡ least (option_map_or (overridden_kinds set.now m.now)
-        (declared_in set.now (named_at set.now m.now) class.now) []) }
-{
-    match &set.method_like(*class, *m) {
-        Some(above) => overridden_kind(set, m, above),
-        None => None,
-    }
 }
 
 /// Whether it overrides the one above is looked at last, since few methods may not be overridden.

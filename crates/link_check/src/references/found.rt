@@ -76,7 +76,7 @@ fn nearest_declared(set: &ClassSet, class: ClassId, name: &Name, ty: &Text) -> O
     ensures is { result ≡ first_declared set.now (name.now, ty.now) (superclasses_from set.now class) }
     ensures there { IfSome result (IsMember set.now) }
 {
-    for class in Superclasses::of(set, class) {
+    for class in Superclasses::up(set, set.declaring_from(class, name, ty)) {
         if let Some(m) = set.declared_in(class, name, ty) {
             return Some(m);
         }

@@ -54,7 +54,7 @@ fn first_instance(set: &ClassSet, class: ClassId, m: &MemberAt) -> Option<Member
     ensures is { result ≡ first_instance set.now class (named_at set.now m.now) }
     ensures there { IfSome result (IsMember set.now) }
 {
-    for class in Superclasses::of(set, class) {
+    for class in Superclasses::up(set, set.alike_from(class, *m)) {
         if let Some(found) = &set.method_like(class, *m) {
             if set.is_instance_method(*found) {
                 return Some(*found);
@@ -98,7 +98,7 @@ fn nearest(set: &ClassSet, class: &ClassId, m: &MemberAt, opened: bool) -> Optio
     ensures is { result ≡ find (overrides_where set.now m.now opened) (alike_from set.now m.now class.now) }
     ensures there { IfSome result (IsMember set.now) }
 {
-    for class in Superclasses::of(set, *class) {
+    for class in Superclasses::up(set, set.alike_from(*class, *m)) {
         if let Some(found) = &set.method_like(class, *m) {
             if overrides_where(set, found, m, opened) {
                 return Some(*found);

@@ -67,7 +67,7 @@ pub(crate) fn first_instance_up(
     ensures is { result ≡ find (is_instance_method set.now)
         (declared_by set.now (r.now.name, r.now.ty) (superclasses_up set.now class)) }
 {
-    for class in Superclasses::up(set, class) {
+    for class in Superclasses::up(set, declaring_up(set, class, r)) {
         if let Some(found) = &set.declared_in(class, &r.name, &r.ty) {
             if set.is_instance_method(*found) {
                 return Some(*found);
@@ -75,4 +75,14 @@ pub(crate) fn first_instance_up(
         }
     }
     None
+}
+
+/// The class from which on upwards such methods are to be looked for.
+fn declaring_up(set: &ClassSet, class: Option<ClassId>, r: &MemberRef) -> Option<ClassId>
+    requires { IfSome class (IsClass set.now) }
+    ensures same { declared_by set.now (r.now.name, r.now.ty) (superclasses_up set.now class)
+        ≡ declared_by set.now (r.now.name, r.now.ty) (superclasses_up set.now result) }
+    ensures there { IfSome result (IsClass set.now) }
+{
+    set.declaring_from(class?, &r.name, &r.ty)
 }

@@ -13,4 +13,5 @@ invariant_of-result c = (
   c.requires.tables.object,
   c.requires.object,
   c.requires.tables.superclasses,
+  c.requires.tables.notes,
 )
